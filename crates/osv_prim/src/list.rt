@@ -1,0 +1,89 @@
+ghost use Rattle.std.specs.Prelude.{◌≡◌, ◌++◌, ◌∷◌, [], ◌↔◌, IfOk, OnOk, OnErr, IsTrue, length, slice_get, option_map};
+
+use crate::memory::Memory;
+use std::alloc::Global;
+use std::marker::Model;
+
+/// Values in a row, which contracts see as their list.
+#[derive(Debug, Drop)]
+pub struct List<T> {
+    items: Vec<T>,
+}
+
+impl<T> Model for List<T> {
+    ghost use Rattle.std.specs.Prelude.{List};
+
+    ghost Value = { List T };
+
+    ghost view = { λ l. l.items.items };
+}
+
+impl<T> List<T> {
+    /// An empty list, which takes no memory before its first member.
+    pub fn new(alloc: Global) -> List<T>
+        ensures { result ≡ [] }
+    {
+        List {
+            items: Vec::new(alloc),
+        }
+    }
+
+    /// An empty list with room for `count` members, and no more.
+    pub fn with_capacity(alloc: Global, count: usize) -> Result<List<T>, Memory>
+        ensures { IfOk result (λ l. l ≡ []) }
+    {
+        let mut items = Vec::new(alloc);
+        items.try_reserve_exact(count)?;
+        Ok(List { items })
+    }
+
+    /// The members of a vector, without a copy.
+    pub fn from_vec(items: Vec<T>) -> List<T>
+        ensures { result ≡ items.items }
+    {
+        List { items }
+    }
+
+    /// The vector that holds the members, without a copy.
+    pub fn into_vec(self) -> Vec<T>
+        ensures { result.items ≡ self }
+    {
+        self.items
+    }
+
+    pub fn as_slice(&self) -> &[T]
+        ensures { result.now ≡ self.now }
+    {
+        self.items.as_slice()
+    }
+
+    pub fn len(&self) -> usize
+        ensures { result ≡ length self.now }
+    {
+        self.items.len()
+    }
+
+    pub fn is_empty(&self) -> bool
+        ensures { IsTrue result ↔ (length self.now ≡ 0) }
+    {
+        self.items.is_empty()
+    }
+
+    /// The member at a place, counted from 0.
+    pub fn get(&self, at: usize) -> Option<&T>
+        ensures { option_map (λ x. x.now) result ≡ slice_get self.now at }
+    {
+        self.items.get(at)
+    }
+
+    /// Puts a member at the end. A refused push changes nothing.
+    pub fn push(&mut self, value: T) -> Result<(), Memory>
+    where
+        T: Drop,
+        ensures ok { OnOk result (self.new ≡ self.old ++ value ∷ []) }
+        ensures err { OnErr result (self.new ≡ self.old) }
+    {
+        self.items.push(value)?;
+        Ok(())
+    }
+}
