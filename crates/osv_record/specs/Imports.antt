@@ -1,5 +1,7 @@
 -- The advisories that count among imports in order: the last of each id (our own).
-use Rattle.std.specs.Prelude.{ℕ, List, [], ◌∷◌}
+use Rattle.std.specs.Prelude.{◌≡◌, ℕ, Bool, false, List, [], ◌∷◌, ◌++◌}
+use Rattle.std.specs.List.{list_any}
+use Rattle.std.specs.Str.{bytes_eq}
 use Rattle.std.specs.Ordering.{nat_cmp, match_ordering}
 use Rattle.std.specs.Cmp.Lexicographic.{slice_cmp}
 use Rattle.osv_record.specs.Advisories.{Advisory}
@@ -17,3 +19,14 @@ records_from kept (r ∷ later) = records_from (placed r kept) later
 -- the last import of each id, ascending by id
 abbrev pub records : List Advisory → List Advisory
 records imports = records_from [] imports
+
+-- some advisory has this id
+abbrev pub has_id : List ℕ → List Advisory → Bool
+has_id id imports = list_any (λ r. bytes_eq id r.id) imports
+
+-- it stands among the imports, and no later one has its id
+pub record IsLastOfItsId (imports : List Advisory) (r : Advisory) : Type 0 where
+  pub before : List Advisory
+  pub after : List Advisory
+  pub stands : imports ≡ before ++ r ∷ after
+  pub last : has_id r.id after ≡ false
