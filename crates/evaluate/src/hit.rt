@@ -51,11 +51,7 @@ fn is_among(text: &str, versions: &[Text]) -> bool
     versions.iter().any(|version| text == version.as_str())
 }
 
-pub(crate) fn is_hit_by(
-    alloc: Global,
-    record: &Record,
-    subject: &Subject,
-) -> Result<bool, Memory>
+pub(crate) fn is_hit_by(alloc: Global, record: &Record, subject: &Subject) -> Result<bool, Memory>
     ensures { IfOk result (λ b. b ≡ hit subject.now record.now) }
 {
     match subject {

@@ -12,5 +12,4 @@ ghost use Rattle.osv_record.specs.Imports.{records, IsLastOfItsId};
 pub fn the_last_import_of_each_id_counts()
     ensures ascending { (imports : List Advisory) → IsStrictlySortedBy (slice_cmp nat_cmp) (map (λ r. r.id) (records imports)) }
     ensures exactly { (imports : List Advisory) (r : Advisory) → (Contains (records imports) r) ↔ (IsLastOfItsId imports r) }
-{
-}
+{}

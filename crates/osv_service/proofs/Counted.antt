@@ -1,6 +1,5 @@
 -- Words that are no command, by their number.
-use Rattle.std.proofs.Common.{◌≡◌, ◌≢◌, ◌<◌, suc, List, ℕ, [], ◌∷◌, length, map, get_or, Option, None, refl, arith, String, Global}
-use Rattle.std.proofs.lemmas.List.{length-map}
+use Rattle.std.proofs.Common.{◌≡◌, ◌≢◌, List, [], ◌∷◌, length, map, get_or, None, refl, arith, String, Global}
 use Rattle.std.specs.Prelude.{string_bytes}
 use Rattle.osv_service.specs.Words.{command}
 

@@ -1,5 +1,5 @@
 -- A text cut at its first line end.
-use Rattle.std.proofs.Common.{◌≡◌, ◌⊎◌, inl, inr, ℕ, suc, ◌+◌, ◌-◌, ◌<◌, ◌≤◌, Bool, true, false, List, [], ◌∷◌, ◌++◌, length, take, drop, drop-cons, get_or, refl, sym, ap, subst, ◌∙◌, add-one, arith}
+use Rattle.std.proofs.Common.{◌≡◌, inl, inr, ℕ, suc, ◌+◌, ◌-◌, ◌<◌, ◌≤◌, Bool, true, false, List, [], ◌∷◌, ◌++◌, length, take, drop, drop-cons, get_or, refl, sym, ap, subst, ◌∙◌, add-one, arith}
 use Rattle.std.specs.Prelude.{◌==◌, filter}
 use Rattle.std.specs.List.{slice_split, enumerate_from}
 use Rattle.std.proofs.lemmas.List.{take-append-drop, get_or_default, get_or-take, length-take-le, take_all, length-drop}
@@ -25,8 +25,8 @@ cut_at text at lt none is =
     let whole : text ≡ take at text ++ (get_or text at 0 ∷ drop (suc at) text) = sym (take-append-drop at text) ∙ ap (λ (x : List ℕ). take at text ++ x) (drop-cons text at 0 lt) in
     let long : length (take at text) ≡ at = length-take-le at text (omega arith) in
     let split : slice_split (λ (b : ℕ). b == 10) (take at text ++ (get_or text at 0 ∷ drop (suc at) text)) ≡ take at text ∷ slice_split (λ (b : ℕ). b == 10) (drop (suc at) text) =
-        slice_split_at (λ b. b == 10) (take at text) (get_or text at 0) (drop (suc at) text)
-        (λ k d below. let within : k < at = omega (arith, long) in ap (λ (x : ℕ). x == 10) (get_or-take at text k d within) ∙ not_here text at k d none within (omega arith)) is in
+    slice_split_at (λ b. b == 10) (take at text) (get_or text at 0) (drop (suc at) text)
+    (λ k d below. let within : k < at = omega (arith, long) in ap (λ (x : ℕ). x == 10) (get_or-take at text k d within) ∙ not_here text at k d none within (omega arith)) is in
     inl (ap (slice_split (λ (b : ℕ). b == 10)) whole ∙ split ∙ ap (λ (n : ℕ). take at text ∷ slice_split (λ (b : ℕ). b == 10) (drop n text)) (sym (add-one at)))
 
 -- ---- the numbered lines

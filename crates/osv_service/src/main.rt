@@ -7,6 +7,8 @@ mod command;
 mod input;
 mod lines;
 mod program;
+#[cfg(test)]
+mod tests;
 mod words;
 
 use edge_io::{ReadEnd, WriteEnd};

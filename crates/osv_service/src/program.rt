@@ -15,7 +15,7 @@ use std::alloc::Global;
 
 const MOST_INPUT: usize = 1_073_741_824;
 
-const USAGE: &str =
+pub(crate) const USAGE: &str =
     "usage: osv_service ask [--input N] ECOSYSTEM NAME [VERSION]\n       osv_service ask [--input N] --commit OID [ECOSYSTEM NAME]\n       osv_service check [--input N]\n       osv_service replay [SETTINGS]\n       osv_service drill SEED SIZE\n       osv_service serve [SETTINGS] [--lanes N] [--helpers N] ADDRESS\n";
 
 /// Does what the words say over a source and a sink, and answers the status: 0 where the whole input

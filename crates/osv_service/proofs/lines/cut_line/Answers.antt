@@ -1,4 +1,4 @@
-use Rattle.std.proofs.Common.{◌≡◌, ◌+◌, List, ℕ, take, drop, subst, sym}
+use Rattle.std.proofs.Common.{◌+◌, List, ℕ, take, subst, sym}
 use Rattle.osv_service.specs.Lines.{CutsLine}
 use Rattle.osv_service.proofs.Cut.{uncut, cut_at, rest_from}
 use Rattle.osv_service.proofs.lines.cut_line.Goals as goal

@@ -1,4 +1,3 @@
-use Rattle.std.proofs.Common.{◌≡◌}
 use Rattle.osv_service.proofs.Ending.{declines_by}
 use Rattle.osv_service.proofs.program.decline.Goals as goal
 

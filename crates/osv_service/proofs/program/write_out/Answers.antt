@@ -1,4 +1,4 @@
-use Rattle.std.proofs.Common.{◌≡◌, length}
+use Rattle.std.proofs.Common.{length}
 use Rattle.std.proofs.Math.Seq.{take-length}
 use Rattle.osv_service.proofs.program.write_out.Goals as goal
 

@@ -1,4 +1,3 @@
-use Rattle.std.proofs.Common.{◌≡◌}
 use Rattle.std.proofs.lemmas.Bool.{false≢true}
 use Rattle.json_view.proofs.Values.{json_is, no_json}
 use Rattle.json_view.proofs.document.Document.read.Goals as goal

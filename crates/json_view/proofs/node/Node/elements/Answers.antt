@@ -1,4 +1,4 @@
-use Rattle.std.proofs.Common.{◌≡◌, List, Option, Some, map, option_map, sym, ap, ◌∙◌}
+use Rattle.std.proofs.Common.{List, Option, Some, map, option_map, sym, ap, ◌∙◌}
 use Rattle.serde_json.specs.Data.{Data, Items}
 use Rattle.serde_json.specs.declared.value.Value.{Value}
 use Rattle.serde_json.specs.View.{view}
