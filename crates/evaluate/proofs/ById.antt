@@ -3,13 +3,15 @@ use Rattle.std.proofs.Common.{◌≡◌, ℕ, ◌+◌, ◌<◌, Bool, true, fals
 use Rattle.std.proofs.lemmas.List.{map_more}
 use Rattle.std.specs.Prelude.{filter}
 use Rattle.std.specs.Map.{remove_entry}
+use Rattle.std.specs.Set.{remove_key}
+use Rattle.std.specs.BTreeSet.{insert_key}
 use Rattle.std.specs.Ordering.{match_ordering}
 use Rattle.std.specs.Cmp.Lexicographic.{slice_cmp}
 use Rattle.std.specs.BTreeMap.{insert_entry}
 use Rattle.osv_prim.specs.declared.subject.Subject.{Subject}
 use Rattle.osv_record.specs.Advisories.{Advisory}
 use Rattle.osv_record.specs.Imports.{placed, records_from, records}
-use Rattle.evaluate.specs.Hits.{hit, hits, keyed}
+use Rattle.evaluate.specs.Hits.{hit, hits, ids_of, hit_ids, keyed}
 use Rattle.evaluate.proofs.Ascending.{by_id, one_id, records-ascending, removed, filter-placed_hit, filter-placed_miss}
 
 -- a kept value is seen as an advisory
@@ -86,3 +88,30 @@ all_values {V = V} see (x ∷ es) (r ∷ rs) e =
 
 pub one_more : {A : Type 0} (see : A → Advisory) (xs : List A) (i : ℕ) (a : A) → i < length xs → a ≡ get_or xs i a → map see (take (i + 1) xs) ≡ map see (take i xs) ++ see a ∷ []
 one_more see xs i a lt at = map_more see xs i a lt ∙ ap (λ y. map see (take i xs) ++ see y ∷ []) (sym at)
+
+-- ---- ids alone
+
+same_ids : (r x : Advisory) (o : Ordering) (xs : List Advisory) (rest : List (List ℕ)) → by_id r.id x.id ≡ o → rest ≡ ids_of (placed r xs)
+    → match_ordering o (r.id ∷ x.id ∷ ids_of xs) (x.id ∷ ids_of xs) (x.id ∷ rest) ≡ match_ordering o (ids_of (r ∷ x ∷ xs)) (ids_of (r ∷ xs)) (ids_of (x ∷ placed r xs))
+same_ids r x Less xs rest o e = refl
+same_ids r x Equal xs rest o e = ap (λ (i : List ℕ). i ∷ ids_of xs) (sym (one_id r.id x.id o))
+same_ids r x Greater xs rest o e = ap (λ (t : List (List ℕ)). x.id ∷ t) e
+
+insert-ids : (r : Advisory) (xs : List Advisory) → insert_key by_id (ids_of xs) r.id ≡ ids_of (placed r xs)
+insert-ids r [] = refl
+insert-ids r (x ∷ xs) = same_ids r x (by_id r.id x.id) xs _ refl (insert-ids r xs) ∙ sym (map-match (λ (y : Advisory). y.id) (by_id r.id x.id) _ _ _)
+
+remove-ids : (id : List ℕ) (xs : List Advisory) → remove_key (λ k. is_eq (by_id id k)) (ids_of xs) ≡ ids_of (removed id xs)
+remove-ids id [] = refl
+remove-ids id (x ∷ xs) = rw (remove-ids id xs) (sym (map-cond (λ (y : Advisory). y.id) (is_eq (by_id id x.id)) _ _))
+
+pub id_inserted : (ids : List (List ℕ)) (imports : List Advisory) (r : Advisory) (s : Subject) → hit s r ≡ true → ids ≡ hit_ids imports s → insert_key by_id ids r.id ≡ hit_ids (imports ++ r ∷ []) s
+id_inserted ids imports r s is so_far =
+    ap (λ (ks : List (List ℕ)). insert_key by_id ks r.id) so_far ∙ insert-ids r (hits imports s)
+    ∙ ap ids_of (sym (ap (filter (hit s)) (records-push [] imports r) ∙ filter-placed_hit (hit s) r (records imports) is (records-ascending [] imports tt)))
+
+pub id_taken_out : (ids : List (List ℕ)) (imports : List Advisory) (r : Advisory) (s : Subject) → hit s r ≡ false → ids ≡ hit_ids imports s
+    → remove_key (λ k. is_eq (by_id r.id k)) ids ≡ hit_ids (imports ++ r ∷ []) s
+id_taken_out ids imports r s is so_far =
+    ap (remove_key (λ k. is_eq (by_id r.id k))) so_far ∙ remove-ids r.id (hits imports s)
+    ∙ ap ids_of (sym (ap (filter (hit s)) (records-push [] imports r) ∙ filter-placed_miss (hit s) r (records imports) is (records-ascending [] imports tt)))

@@ -1,5 +1,5 @@
 -- Which advisories hit what is asked (OSV schema 1.6, "Evaluation").
-use Rattle.std.specs.Prelude.{ℕ, List, Bool, true, false, ◌&&◌, Option, Some, None, filter}
+use Rattle.std.specs.Prelude.{ℕ, List, Bool, true, false, ◌&&◌, Option, Some, None, filter, map}
 use Rattle.std.specs.List.{list_any}
 use Rattle.std.specs.Str.{bytes_eq}
 use Rattle.osv_prim.specs.declared.package.PackageKey.{PackageKey}
@@ -29,6 +29,13 @@ hit (Package k t) r = version_hit r k t
 -- the last import of each id, where it hits, ascending by id
 abbrev pub hits : List Advisory → Subject → List Advisory
 hits imports subject = filter (hit subject) (records imports)
+
+abbrev pub ids_of : List Advisory → List (List ℕ)
+ids_of rs = map (λ r. r.id) rs
+
+-- the ids of the hits, ascending
+abbrev pub hit_ids : List Advisory → Subject → List (List ℕ)
+hit_ids imports subject = ids_of (hits imports subject)
 
 -- an advisory under its id
 abbrev pub keyed : Advisory → List ℕ × Advisory

@@ -3,7 +3,9 @@
 
 mod evaluation;
 mod hit;
+mod hit_ids;
 pub mod laws;
 
 pub use evaluation::hits;
 pub use hit::version_hit;
+pub use hit_ids::HitIds;

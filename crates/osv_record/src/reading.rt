@@ -6,13 +6,13 @@ ghost use Rattle.osv_record.specs.Reading.{advisory, text_of, name_of, list_or_n
 
 use crate::fault::RecordFault;
 use crate::record::{Affected, Record};
-use json_view::{Document, Elements, JsonFault, Node};
+use json_view::{Document, Elements, JsonFault, Node, Room};
 use osv_prim::{Bytes, Id, IdFault, List, PackageKey, Stop, Text};
 use std::alloc::Global;
 
 const MOST_BYTES: usize = 16_777_216;
 
-fn text_of<'a>(node: Node<'a>) -> Result<&'a str, Stop<RecordFault>>
+fn text_of<'a>(node: Node<'_, 'a>) -> Result<&'a str, Stop<RecordFault>>
     ensures { Gives (λ s. s.now) result (text_of (node_value node.entry)) }
 {
     match node.as_str() {
@@ -23,7 +23,7 @@ fn text_of<'a>(node: Node<'a>) -> Result<&'a str, Stop<RecordFault>>
 
 // A text that is there and is not empty.
 #[tactic(auto, unfolding(crate::specs::Reading::name_of))]
-fn name_of<'a>(found: Option<Node<'a>>) -> Result<&'a str, Stop<RecordFault>>
+fn name_of<'a>(found: Option<Node<'_, 'a>>) -> Result<&'a str, Stop<RecordFault>>
     ensures { Gives (λ s. s.now) result (name_of (option_map node_value found.entry)) }
 {
     let Some(node) = found else {
@@ -68,7 +68,7 @@ fn absent(found: Option<Node>) -> Result<(), Stop<RecordFault>>
     Ok(())
 }
 
-fn list_or_none<'a>(found: Option<Node<'a>>) -> Result<Elements<'a>, Stop<RecordFault>>
+fn list_or_none<'t, 'a>(found: Option<Node<'t, 'a>>) -> Result<Elements<'t, 'a>, Stop<RecordFault>>
     ensures { Gives element_values result (list_or_none (option_map node_value found.entry)) }
 {
     let Some(node) = found else {
@@ -123,10 +123,14 @@ fn record_of(alloc: Global, bytes: &[u8], node: Node) -> Result<Record, Stop<Rec
     Ok(Record::new(id, affected, Bytes::copy_of(alloc, bytes)?)?)
 }
 
-fn document_of(alloc: Global, bytes: &[u8]) -> Result<Document, Stop<RecordFault>>
+fn document_of<'a>(
+    alloc: Global,
+    bytes: &'a [u8],
+    room: &'a mut Room,
+) -> Result<Document<'a>, Stop<RecordFault>>
     ensures { Gives document_value result (or_refuse RecordFault.NotJson (json bytes.now)) }
 {
-    match Document::read(alloc, bytes) {
+    match Document::read(alloc, bytes, room) {
         Ok(document) => Ok(document),
         Err(JsonFault::NotJson) => Err(Stop::Refused(RecordFault::NotJson)),
         Err(JsonFault::Memory) => Err(Stop::Memory),
@@ -134,12 +138,16 @@ fn document_of(alloc: Global, bytes: &[u8]) -> Result<Document, Stop<RecordFault
 }
 
 #[tactic(auto, unfolding(crate::specs::Reading::advisory))]
-pub(crate) fn record_from(alloc: Global, bytes: &[u8]) -> Result<Record, Stop<RecordFault>>
+pub(crate) fn record_from(
+    alloc: Global,
+    bytes: &[u8],
+    room: &mut Room,
+) -> Result<Record, Stop<RecordFault>>
     ensures { Gives (λ r. r) result (advisory bytes.now) }
 {
     if bytes.len() > MOST_BYTES {
         return Err(Stop::Refused(RecordFault::TooLarge));
     }
-    let document = document_of(alloc, bytes)?;
+    let document = document_of(alloc, bytes, room)?;
     record_of(alloc, bytes, document.root())
 }

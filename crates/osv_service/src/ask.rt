@@ -1,18 +1,16 @@
-ghost use Rattle.std.specs.Prelude.{◌≡◌, ◌≤◌, ◌<◌, ◌⊎◌, ◌++◌, ◌^◌, List, ℕ, [], ◌∷◌, map, length, IfOk, OnOk, string_bytes, codes};
+ghost use Rattle.std.specs.Prelude.{◌≡◌, ◌≤◌, ◌<◌, ◌⊎◌, ◌++◌, ◌^◌, List, ℕ, length, IfOk, IfErr, OnOk, string_bytes, codes};
 ghost use Rattle.std.specs.List.{flat_map};
-ghost use Rattle.std.specs.Arc.{arc_value};
 ghost use Rattle.std.specs.Fmt.{decimal};
-ghost use Rattle.osv_prim.specs.Results.{Gives};
+ghost use Rattle.osv_prim.specs.Results.{Gives, Fails};
 ghost use Rattle.osv_service.specs.Cursor.{line_pair};
-ghost use Rattle.osv_service.specs.Asked.{imports, read_line, line_of, refused_line, refused_input, asked, most_input};
+ghost use Rattle.osv_service.specs.Asked.{imports, read_line, ids_hit, line_of, refused_line, refused_input, asked, most_input, TakesLine};
 
 use crate::answer::Answer;
 use crate::lines::{Lines, NumberedLine};
-use evaluate::hits;
-use osv_prim::{Bytes, Memory, Stop, Subject};
-use osv_record::{Record, RecordFault};
+use evaluate::HitIds;
+use osv_prim::{Bytes, Id, Memory, Stop, Subject};
+use osv_record::{Record, RecordFault, Room};
 use std::alloc::{AllocError, Global};
-use std::sync::Arc;
 
 /// A line that is refused. Lines are numbered from 1, with the empty ones counted.
 #[derive(Clone, Copy, Debug, PartialEq, Eq)]
@@ -21,11 +19,11 @@ pub struct LineFault {
     pub fault: RecordFault,
 }
 
-fn read_line(alloc: Global, line: NumberedLine) -> Result<Arc<Record>, Stop<LineFault>>
-    ensures { Gives (λ a. arc_value a) result (read_line (line_pair line.entry)) }
+fn read_line(alloc: Global, line: NumberedLine, room: &mut Room) -> Result<Record, Stop<LineFault>>
+    ensures { Gives (λ r. r) result (read_line (line_pair line.entry)) }
 {
-    match Record::read(alloc, line.text) {
-        Ok(record) => Ok(Arc::new(alloc, record)?),
+    match Record::read_in(alloc, line.text, room) {
+        Ok(record) => Ok(record),
         Err(RecordFault::Memory) => Err(Stop::Memory),
         Err(fault) => Err(Stop::Refused(LineFault {
             number: line.number,
@@ -34,34 +32,44 @@ fn read_line(alloc: Global, line: NumberedLine) -> Result<Arc<Record>, Stop<Line
     }
 }
 
-fn imports_of(alloc: Global, input: &[u8]) -> Result<Vec<Arc<Record>>, Stop<LineFault>>
+fn take_line(
+    alloc: Global,
+    line: NumberedLine,
+    room: &mut Room,
+    subject: &Subject,
+    found: &mut HitIds,
+) -> Result<(), Stop<LineFault>>
+    ensures ok { OnOk result (TakesLine subject.now (line_pair line.entry) found.old found.new) }
+    ensures err { IfErr result (λ d. Fails d (read_line (line_pair line.entry))) }
+{
+    let record = read_line(alloc, line, room)?;
+    found.import(alloc, record, subject)?;
+    Ok(())
+}
+
+// A record is let go once it was looked at, so that a run holds little beside its input.
+fn found_in(alloc: Global, subject: &Subject, input: &[u8]) -> Result<HitIds, Stop<LineFault>>
     requires { length input.now < 2 ^ 48 }
-    ensures { Gives (λ v. map (λ a. arc_value a) v.items) result (imports input.now) }
+    ensures { Gives (λ h. h) result (ids_hit subject.now (imports input.now)) }
 {
     let mut lines = Lines::new(input);
-    let mut imports = Vec::new(alloc);
+    let mut room = Room::new(alloc);
+    let mut found = HitIds::new(alloc);
     while let Some(line) = lines.next() {
-        imports.push(read_line(alloc, line)?)?;
+        take_line(alloc, line, &mut room, subject, &mut found)?;
     }
-    Ok(imports)
+    Ok(found)
 }
 
-fn ids_of(alloc: Global, found: &[Arc<Record>]) -> Result<Vec<u8>, AllocError>
-    ensures { IfOk result (λ v. v.items ≡ flat_map line_of (map (λ a. arc_value a) found.now)) }
+fn ids_text(alloc: Global, ids: &[Id]) -> Result<Vec<u8>, AllocError>
+    ensures { IfOk result (λ v. v.items ≡ flat_map line_of ids.now) }
 {
     let mut output = Vec::new(alloc);
-    for record in found {
-        add_id(&mut output, record)?;
+    for id in ids {
+        output.extend_from_slice(id.as_str().as_bytes())?;
+        output.push(b'\n')?;
     }
     Ok(output)
-}
-
-fn add_id(output: &mut Vec<u8>, record: &Record) -> Result<(), AllocError>
-    ensures { OnOk result (output.new.items ≡ output.old.items ++ line_of record.now) }
-{
-    output.extend_from_slice(record.id.as_str().as_bytes())?;
-    output.push(b'\n')?;
-    Ok(())
 }
 
 fn refused_line(alloc: Global, refused: LineFault) -> Result<String, AllocError>
@@ -84,12 +92,12 @@ pub fn asked(alloc: Global, subject: &Subject, input: &[u8]) -> Result<Answer, M
     ensures answer { IfOk result (λ a. a ≡ asked subject.now input.now) }
     ensures known { IfOk result (λ a. (a.status ≡ 0) ⊎ (a.status ≡ 5)) }
 {
-    match imports_of(alloc, input) {
-        Ok(imports) => {
-            let found = hits(alloc, imports.as_slice(), subject)?;
+    match found_in(alloc, subject, input) {
+        Ok(found) => {
+            let ids = found.into_vec(alloc)?;
             Ok(Answer {
                 status: 0,
-                output: Bytes::from_vec(ids_of(alloc, found.as_slice())?),
+                output: Bytes::from_vec(ids_text(alloc, ids.as_slice())?),
             })
         }
         Err(Stop::Memory) => Err(Memory),

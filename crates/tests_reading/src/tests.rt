@@ -1,6 +1,6 @@
 use edge_io::{CalmSink, CalmSource, ReadEnd, Sink, Source, WriteEnd, write_whole};
-use evaluate::{hits, version_hit};
-use json_view::Document;
+use evaluate::{HitIds, hits, version_hit};
+use json_view::{Document, Room};
 use osv_prim::{Bytes, Id, IdFault, List, PackageKey, Subject, Text};
 use osv_record::{Affected, Record, RecordFault};
 use std::io::Cursor;
@@ -51,7 +51,8 @@ const ADVISORY: &str =
 
 #[test]
 fn advisories_are_read_with_their_parts(rt: HostRuntime) -> Result<(), Fail> {
-    let document = Document::read(rt.alloc(), ADVISORY.as_bytes())?;
+    let mut room = Room::new(rt.alloc());
+    let document = Document::read(rt.alloc(), ADVISORY.as_bytes(), &mut room)?;
     assert!(rt; document.root().is_object());
     let record = Record::read(rt.alloc(), ADVISORY.as_bytes())?;
     assert_eq!(rt; record.id.as_str(), "X-1");
@@ -112,6 +113,14 @@ fn the_last_of_each_id_is_evaluated(rt: HostRuntime) -> Result<(), Fail> {
         assert_eq!(rt; named.as_str(), ids);
     }
     let asked = PackageKey::normal(rt.alloc(), "PyPI", "a.b")?;
+    let subject = Subject::Package(PackageKey::normal(rt.alloc(), "PyPI", "a-b")?, None);
+    let mut found = HitIds::new(rt.alloc());
+    found.import(
+        rt.alloc(),
+        Record::read(rt.alloc(), ADVISORY.as_bytes())?,
+        &subject,
+    )?;
+    assert_eq!(rt; found.into_vec(rt.alloc())?.len(), 1);
     let record = Record::read(rt.alloc(), ADVISORY.as_bytes())?;
     assert!(rt; version_hit(rt.alloc(), &record, &asked, Some("2"))?);
     Ok(())
