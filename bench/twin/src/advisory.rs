@@ -110,7 +110,10 @@ trait Form<'de>: Sized {
     }
 
     fn object<A: MapAccess<'de>>(mut object: A) -> Result<Option<Self>, A::Error> {
-        while object.next_entry::<Member<Unread>, Member<Unread>>()?.is_some() {}
+        while object
+            .next_entry::<Member<Unread>, Member<Unread>>()?
+            .is_some()
+        {}
         Ok(None)
     }
 }

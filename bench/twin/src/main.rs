@@ -37,7 +37,9 @@ fn question() -> Option<Question> {
     let is_asked = ask == "ask"
         && !ecosystem.is_empty()
         && !name.is_empty()
-        && ![&ecosystem, &name, &version].iter().any(|word| is_option(word));
+        && ![&ecosystem, &name, &version]
+            .iter()
+            .any(|word| is_option(word));
     is_asked.then(|| Question {
         package: Package::new(ecosystem.into(), name.into()),
         version,

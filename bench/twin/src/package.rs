@@ -36,7 +36,9 @@ fn is_separator(byte: u8) -> bool {
 /// The name in lower case, with one dash for each run of separators (PEP 503).
 fn simple_name(name: Cow<str>) -> Cow<str> {
     let bytes = name.as_bytes();
-    let is_simple = !bytes.iter().any(|b| b.is_ascii_uppercase() || matches!(b, b'_' | b'.'))
+    let is_simple = !bytes
+        .iter()
+        .any(|b| b.is_ascii_uppercase() || matches!(b, b'_' | b'.'))
         && !bytes.windows(2).any(|pair| pair == b"--");
     if is_simple {
         return name;
@@ -45,7 +47,7 @@ fn simple_name(name: Cow<str>) -> Cow<str> {
     for (at, letter) in name.char_indices() {
         if !letter.is_ascii() || !is_separator(letter as u8) {
             simple.push(letter.to_ascii_lowercase());
-        } else if !bytes.get(at + 1).is_some_and(|next| is_separator(*next)) {
+        } else if !matches!(bytes.get(at + 1), Some(next) if is_separator(*next)) {
             simple.push('-');
         }
     }
