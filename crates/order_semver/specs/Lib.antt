@@ -1,0 +1,4 @@
+pub mod Cuts
+pub mod Key
+pub mod Laws
+pub mod Reading
