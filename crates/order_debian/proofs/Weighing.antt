@@ -5,9 +5,8 @@ use Rattle.std.specs.Char.{is_ascii_digit}
 use Rattle.std.specs.Ordering.{ordering_then}
 use Rattle.std.specs.declared.cmp.Ordering.{Ordering}
 use Rattle.std.specs.declared.cmp.Ordering.TheVariants.{Less, Equal, Greater}
-use Rattle.osv_prim.specs.Digits.{all_digits, number}
-use Rattle.order_debian.specs.Cuts.{front, behind_front, run, behind_run, first_weight, later}
-use Rattle.order_debian.specs.Filled.{filled, filled_cmp}
+use Rattle.osv_prim.specs.Digits.{behind_digits, digit_front, filled, filled_cmp, number}
+use Rattle.order_debian.specs.Cuts.{front, behind_front, first_weight, later}
 use Rattle.order_debian.specs.Turns.{Turn, Weight, character_before, digit_before, no_weight, ranks, turns, weight, weight_cmp, weights, weights_cmp}
 
 digit_other : (d c : ℕ) (ts : List Turn) → digit_before d (character_before c ts) ≡ ([], d ∷ []) ∷ character_before c ts
@@ -15,8 +14,8 @@ digit_other d c [] = refl
 digit_other d c (t ∷ ts) = refl
 
 -- a part that begins with a digit
-digits_first : (d : ℕ) (cs : List ℕ) → is_ascii_digit d ≡ true → turns (d ∷ cs) ≡ ([], run (d ∷ cs)) ∷ turns (behind_run (d ∷ cs))
-unfolding turns run behind_run
+digits_first : (d : ℕ) (cs : List ℕ) → is_ascii_digit d ≡ true → turns (d ∷ cs) ≡ ([], digit_front (d ∷ cs)) ∷ turns (behind_digits (d ∷ cs))
+unfolding turns digit_front behind_digits
 digits_first d [] e = rw e refl
 digits_first d (c ∷ cs) e = elim (cases_Bool (is_ascii_digit c)) [
   | inl digit ↦ let r = digits_first c cs digit in rw (e, digit) (ap (digit_before d) (rw digit at r))
@@ -24,8 +23,8 @@ digits_first d (c ∷ cs) e = elim (cases_Bool (is_ascii_digit c)) [
 ]
 
 -- the first turn of a part and the turns behind it
-turns_by : (c : ℕ) (cs : List ℕ) → turns (c ∷ cs) ≡ (front (c ∷ cs), run (behind_front (c ∷ cs))) ∷ turns (later (c ∷ cs))
-unfolding turns front behind_front run behind_run
+turns_by : (c : ℕ) (cs : List ℕ) → turns (c ∷ cs) ≡ (front (c ∷ cs), digit_front (behind_front (c ∷ cs))) ∷ turns (later (c ∷ cs))
+unfolding turns front behind_front digit_front behind_digits
 turns_by c [] = elim (cases_Bool (is_ascii_digit c)) [
   | inl digit ↦ let r = digits_first c [] digit in rw (digit, digit) (rw digit at r)
   | inr other ↦ rw other refl
@@ -53,7 +52,7 @@ filled_both v w vs ws = refl
 
 -- the first turns decide, and where they tie the turns behind them
 by_turns : (a b : List ℕ) → weights_cmp (weights a) (weights b) ≡ ordering_then (weight_cmp (first_weight a) (first_weight b)) (weights_cmp (weights (later a)) (weights (later b)))
-unfolding turns front behind_front run behind_run number filled filled_cmp
+unfolding turns front behind_front digit_front behind_digits number filled filled_cmp
 by_turns [] [] = refl
 by_turns [] (y ∷ ys) = ap (weights_cmp []) (weights_by y ys) ∙ filled_left (first_weight (y ∷ ys)) (weights (later (y ∷ ys)))
 by_turns (x ∷ xs) [] = ap (λ (w : List Weight). weights_cmp w []) (weights_by x xs) ∙ filled_right (first_weight (x ∷ xs)) (weights (later (x ∷ xs)))
@@ -67,19 +66,19 @@ then_other Equal s ne = absurd (ne refl)
 then_other Greater s ne = refl
 
 -- what two turns weigh, by their parts
-weighed : (a b fa da fb db : List ℕ) (r : Ordering) → fa ≡ front a → da ≡ run (behind_front a) → fb ≡ front b → db ≡ run (behind_front b)
+weighed : (a b fa da fb db : List ℕ) (r : Ordering) → fa ≡ front a → da ≡ digit_front (behind_front a) → fb ≡ front b → db ≡ digit_front (behind_front b)
     → r ≡ weight_cmp (ranks fa, number da) (ranks fb, number db) → r ≡ weight_cmp (first_weight a) (first_weight b)
 weighed a b fa da fb db r p q p' q' e =
     e ∙ ap (λ (f : List ℕ). weight_cmp (ranks f, number da) (ranks fb, number db)) p ∙ ap (λ (d : List ℕ). weight_cmp (ranks (front a), number d) (ranks fb, number db)) q
     ∙ ap (λ (f : List ℕ). weight_cmp (first_weight a) (ranks f, number db)) p' ∙ ap (λ (d : List ℕ). weight_cmp (first_weight a) (ranks (front b), number d)) q'
 
-pub decides : (a b fa da fb db : List ℕ) (r : Ordering) → fa ≡ front a → da ≡ run (behind_front a) → fb ≡ front b → db ≡ run (behind_front b)
+pub decides : (a b fa da fb db : List ℕ) (r : Ordering) → fa ≡ front a → da ≡ digit_front (behind_front a) → fb ≡ front b → db ≡ digit_front (behind_front b)
     → r ≡ weight_cmp (ranks fa, number da) (ranks fb, number db) → r ≢ Equal → r ≡ weights_cmp (weights a) (weights b)
 decides a b fa da fb db r p q p' q' e ne =
     let w = weighed a b fa da fb db r p q p' q' e in
     w ∙ sym (then_other _ (weights_cmp (weights (later a)) (weights (later b))) (λ t. ne (w ∙ t))) ∙ sym (by_turns a b)
 
-pub goes_on : (a b fa da fb db : List ℕ) (r : Ordering) → fa ≡ front a → da ≡ run (behind_front a) → fb ≡ front b → db ≡ run (behind_front b)
+pub goes_on : (a b fa da fb db : List ℕ) (r : Ordering) → fa ≡ front a → da ≡ digit_front (behind_front a) → fb ≡ front b → db ≡ digit_front (behind_front b)
     → r ≡ weight_cmp (ranks fa, number da) (ranks fb, number db) → r ≡ Equal → weights_cmp (weights (later a)) (weights (later b)) ≡ weights_cmp (weights a) (weights b)
 goes_on a b fa da fb db r p q p' q' e tie =
     let w = weighed a b fa da fb db r p q p' q' e in
@@ -100,8 +99,8 @@ front_shorter (c ∷ cs) = elim (cases_Bool (is_ascii_digit c)) [
   | inr other ↦ let r = front_shorter cs in rw other (omega arith)
 ]
 
-pub run_shorter : (cs : List ℕ) → length (behind_run cs) ≤ length cs
-unfolding behind_run
+run_shorter : (cs : List ℕ) → length (behind_digits cs) ≤ length cs
+unfolding behind_digits
 run_shorter [] = omega arith
 run_shorter (c ∷ cs) = elim (cases_Bool (is_ascii_digit c)) [
   | inl digit ↦ let r = run_shorter cs in rw digit (omega arith)
@@ -109,7 +108,7 @@ run_shorter (c ∷ cs) = elim (cases_Bool (is_ascii_digit c)) [
 ]
 
 later_shorter : (c : ℕ) (cs : List ℕ) → length (later (c ∷ cs)) < length (c ∷ cs)
-unfolding behind_front behind_run
+unfolding behind_front behind_digits
 later_shorter c cs = elim (cases_Bool (is_ascii_digit c)) [
   | inl digit ↦ let r = run_shorter cs in rw (digit, digit) (omega arith)
   | inr other ↦ let r = run_shorter (behind_front cs) in let f = front_shorter cs in rw other (omega arith)
@@ -133,23 +132,4 @@ front_cut (c ∷ cs) = elim (cases_Bool (is_ascii_digit c)) [
       let le = front_shorter cs in
       let one : length (c ∷ cs) - length (behind_front cs) ≡ suc (length cs - length (behind_front cs)) = omega arith in
       rw (other, one) (ap (λ (x : List ℕ). c ∷ x) (front_cut cs))
-]
-
-pub run_cut : (cs : List ℕ) → take (length cs - length (behind_run cs)) cs ≡ run cs
-unfolding run behind_run
-run_cut [] = refl
-run_cut (c ∷ cs) = elim (cases_Bool (is_ascii_digit c)) [
-  | inr other ↦ let none : length (c ∷ cs) - length (c ∷ cs) ≡ 0 = omega arith in rw (other, none) refl
-  | inl digit ↦
-      let le = run_shorter cs in
-      let one : length (c ∷ cs) - length (behind_run cs) ≡ suc (length cs - length (behind_run cs)) = omega arith in
-      rw (digit, one) (ap (λ (x : List ℕ). c ∷ x) (run_cut cs))
-]
-
-pub run_numeric : (cs : List ℕ) → all_digits (run cs) ≡ true
-unfolding run
-run_numeric [] = refl
-run_numeric (c ∷ cs) = elim (cases_Bool (is_ascii_digit c)) [
-  | inl digit ↦ rw (digit, digit) (run_numeric cs)
-  | inr other ↦ rw other refl
 ]

@@ -1,5 +1,4 @@
 pub mod Cuts
-pub mod Filled
 pub mod Key
 pub mod Laws
 pub mod Reading

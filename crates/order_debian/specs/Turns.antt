@@ -5,8 +5,7 @@ use Rattle.std.specs.Char.{is_ascii_alphabetic, is_ascii_digit}
 use Rattle.std.specs.Ordering.{nat_cmp, on, then_cmp}
 use Rattle.std.specs.Cmp.Lexicographic.{slice_cmp}
 use Rattle.std.specs.declared.cmp.Ordering.{Ordering}
-use Rattle.osv_prim.specs.Digits.{number}
-use Rattle.order_debian.specs.Filled.{filled_cmp}
+use Rattle.osv_prim.specs.Digits.{filled_cmp, number}
 
 -- the rank of the end of a front
 abbrev pub end_rank : ℕ

@@ -2,11 +2,11 @@ ghost use Rattle.std.specs.Prelude.{◌≡◌, ◌+◌, ◌<◌, true, length};
 ghost use Rattle.std.specs.Bool.{MatchBool};
 ghost use Rattle.std.specs.Ordering.{nat_cmp};
 ghost use Rattle.std.specs.Cmp.Lexicographic.{slice_cmp};
-ghost use Rattle.osv_prim.specs.Digits.{all_digits, number};
-ghost use Rattle.order_debian.specs.Cuts.{behind_front, behind_run, first_rank, front, later, run};
+ghost use Rattle.osv_prim.specs.Digits.{all_digits, digit_front, number};
+ghost use Rattle.order_debian.specs.Cuts.{behind_front, first_rank, front, later};
 ghost use Rattle.order_debian.specs.Turns.{rank, ranks, weight_cmp, weights, weights_cmp};
 
-use osv_prim::digits_cmp;
+use osv_prim::{digits_cmp, split_digits};
 use std::cmp::Ordering;
 
 // A front without digits, the digits behind it, and what is left of the part.
@@ -81,34 +81,19 @@ fn behind_front(part: &[u8]) -> &[u8]
     rest
 }
 
-// What stands behind the digits of a part that begins with them.
-#[tactic(auto, unfolding(crate::specs::Cuts::behind_run))]
-fn behind_run(part: &[u8]) -> &[u8]
-    ensures { result.now ≡ behind_run part.now }
-{
-    let mut rest = part;
-    while let [byte, after @ ..] = rest {
-        if !byte.is_ascii_digit() {
-            return rest;
-        }
-        rest = after;
-    }
-    rest
-}
-
 // The first turn of a part.
 fn first_turn(part: &[u8]) -> Turn<'_>
     ensures front { result.front.now ≡ front part.now }
-    ensures digits { result.digits.now ≡ run (behind_front part.now) }
+    ensures digits { result.digits.now ≡ digit_front (behind_front part.now) }
     ensures numeric { all_digits result.digits.now ≡ true }
     ensures rest { result.rest.now ≡ later part.now }
 {
     let number = behind_front(part);
-    let rest = behind_run(number);
+    let digits = split_digits(number);
     Turn {
         front: &part[..part.len() - number.len()],
-        digits: &number[..number.len() - rest.len()],
-        rest,
+        digits: digits.run,
+        rest: digits.rest,
     }
 }
 

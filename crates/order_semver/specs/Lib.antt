@@ -1,4 +1,3 @@
-pub mod Cuts
 pub mod Key
 pub mod Laws
 pub mod Reading

@@ -2,11 +2,12 @@
 -- with one or two numbers that are left out.
 use Rattle.std.specs.Prelude.{◌≡◌, ◌≢◌, ℕ, Bool, List, [], ◌∷◌, ◌++◌, take, drop, codes, ◌==◌, ◌||◌, if◌then◌else◌, Option, Some, None, Result, Ok, Err}
 use Rattle.std.specs.List.{count_by, position_or_len}
+use Rattle.osv_prim.specs.Digits.{is_dot}
 use Rattle.osv_prim.specs.declared.read_version.ReadVersion.{ReadVersion}
 use Rattle.osv_prim.specs.declared.read_version.ReadVersion.TheVariants as why
 use Rattle.semver.specs.Parse.{Parts, memory_error, version_parts}
 use Rattle.semver.specs.declared.error.Error.{Error}
-use Rattle.order_semver.specs.Key.{Key, is_dot, pre_release}
+use Rattle.order_semver.specs.Key.{Key, pre_release}
 
 -- the text without one leading `v`
 abbrev pub without_v : List ℕ → List ℕ

@@ -7,7 +7,7 @@ ghost use Rattle.order_semver.specs.Reading.{IsFault, key_of, reading};
 ghost use Rattle.semver.specs.Identifiers.{parts_of};
 ghost use Rattle.semver.specs.Parse.{version_parts};
 
-use crate::identifier::pre_release_cmp;
+use crate::pre_release::pre_release_cmp;
 use crate::text::full_text;
 use osv_prim::{ReadVersion, Text};
 use semver::{Error, Version};

@@ -1,6 +1,6 @@
 ghost use Rattle.std.specs.Prelude.{◌≡◌, ◌<◌, IfOk, IfSome, length, string_bytes};
 ghost use Rattle.std.specs.List.{count_by, position, position_or_len};
-ghost use Rattle.order_semver.specs.Key.{is_dot};
+ghost use Rattle.osv_prim.specs.Digits.{is_dot};
 ghost use Rattle.order_semver.specs.Reading.{completed, full_text, is_mark, missing, without_v};
 
 use osv_prim::Memory;

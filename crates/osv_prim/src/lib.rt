@@ -13,7 +13,7 @@ mod subject;
 mod text;
 
 pub use bytes::Bytes;
-pub use digits::digits_cmp;
+pub use digits::{Digits, digits_cmp, identifiers_cmp, split_digits};
 pub use id::{Id, IdFault};
 pub use list::List;
 pub use memory::Memory;

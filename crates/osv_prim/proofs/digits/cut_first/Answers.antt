@@ -1,6 +1,6 @@
 use Rattle.std.proofs.Common.{◌∙◌, ◌+◌, ap, Some}
-use Rattle.order_semver.proofs.Places.{cuts_none, cuts_some, rest_is}
-use Rattle.order_semver.proofs.identifier.cut_first.Goals as goal
+use Rattle.osv_prim.proofs.Dots.{cuts_none, cuts_some, rest_is}
+use Rattle.osv_prim.proofs.digits.cut_first.Goals as goal
 
 pub returns-in-None-clause-first : goal.returns-in-None-clause-first
 returns-in-None-clause-first c = (cuts_none c.args.text.now c.first_dot.result c.first_dot.ensures.place c.in-None.is).0
