@@ -1,4 +1,4 @@
--- Runs of ASCII digits and the numbers that they spell, alone, among identifiers, and in lists.
+-- Runs of ASCII digits and the numbers that they spell, alone, among identifiers, and in lists (our own).
 use Rattle.std.specs.Prelude.{◌≡◌, ℕ, zero, suc, ◌+◌, ◌-◌, ◌*◌, ◌^◌, ◌≤◌, ◌==◌, Bool, List, [], ◌∷◌, length, map, refl, Option, Some, None, if◌then◌else◌}
 use Rattle.std.specs.Char.{is_ascii_digit}
 use Rattle.std.specs.List.{list_all, slice_split}

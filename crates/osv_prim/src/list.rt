@@ -32,9 +32,9 @@ impl<T> List<T> {
     pub fn with_capacity(alloc: Global, count: usize) -> Result<List<T>, Memory>
         ensures { IfOk result (λ l. l ≡ []) }
     {
-        let mut items = Vec::new(alloc);
-        items.try_reserve_exact(count)?;
-        Ok(List { items })
+        Ok(List {
+            items: Vec::with_capacity(alloc, count)?,
+        })
     }
 
     /// The members of a vector, without a copy.
