@@ -2,19 +2,23 @@
 #![tactic(auto)]
 
 mod bytes;
+mod digits;
 mod id;
 mod list;
 mod memory;
 mod package;
+mod read_version;
 mod stop;
 mod subject;
 mod text;
 
 pub use bytes::Bytes;
+pub use digits::{Digits, digits_cmp, identifiers_cmp, split_digits};
 pub use id::{Id, IdFault};
 pub use list::List;
 pub use memory::Memory;
 pub use package::PackageKey;
+pub use read_version::ReadVersion;
 pub use stop::Stop;
 pub use subject::Subject;
 pub use text::Text;

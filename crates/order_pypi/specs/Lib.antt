@@ -1,0 +1,5 @@
+pub mod Grammar
+pub mod Key
+pub mod Laws
+pub mod Reading
+pub mod Slices
