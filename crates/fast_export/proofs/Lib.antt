@@ -1,0 +1,8 @@
+pub mod Cuts
+pub mod Ends
+pub mod Fed
+pub mod Left
+pub mod Numbers
+pub mod Places
+pub mod Resumes
+pub mod Turns

@@ -1,0 +1,15 @@
+//! The commits of a `git fast-export --show-original-ids` stream, fed in pieces of any size.
+#![tactic(auto)]
+
+mod commands;
+mod commits;
+mod cut;
+mod fault;
+mod grammar;
+mod line;
+mod opening;
+mod reader;
+mod reading;
+
+pub use fault::StreamFault;
+pub use reader::Reader;
