@@ -5,4 +5,5 @@ pub mod Left
 pub mod Numbers
 pub mod Places
 pub mod Resumes
+pub mod Stays
 pub mod Turns

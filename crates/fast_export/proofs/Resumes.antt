@@ -17,7 +17,7 @@ use Rattle.fast_export.proofs.Left.{skipping-none, left-line, left-too_long}
 
 -- ---- counted bytes
 
-long_enough : (k : ℕ) (f : Facts) (at : ℕ) (text : List ℕ) → k ≤ length text → skipping k f at text ≡ Next f (at + k) (drop k text)
+pub long_enough : (k : ℕ) (f : Facts) (at : ℕ) (text : List ℕ) → k ≤ length text → skipping k f at text ≡ Next f (at + k) (drop k text)
 unfolding skipping
 long_enough k f at text le = let e : ltb (length text) k ≡ false = grind (arith, nat_tests) in rw e refl
 

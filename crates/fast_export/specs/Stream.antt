@@ -1,5 +1,5 @@
 -- What a stream says (git's documentation, git-fast-import, "Input format", and git-fast-export, "--show-original-ids"): a list of commands, each of its parts.
-use Rattle.std.specs.Prelude.{ℕ, zero, suc, ◌+◌, Bool, true, if◌then◌else◌, ◌&&◌, not, nat_lt, Result, Ok, Err, List, [], ◌∷◌, length, drop}
+use Rattle.std.specs.Prelude.{◌≡◌, ◌++◌, ℕ, zero, suc, ◌+◌, Bool, true, if◌then◌else◌, ◌&&◌, not, nat_lt, Result, Ok, Err, List, [], ◌∷◌, length, drop}
 use Rattle.osv_prim.specs.declared.oid.CommitRow.{CommitRow}
 use Rattle.fast_export.specs.declared.fault.StreamFault.{StreamFault}
 use Rattle.fast_export.specs.declared.fault.StreamFault.TheVariants as faults
@@ -115,3 +115,7 @@ abbrev pub answer : ℕ → Outcome → Result (List CommitRow) StreamFault
 answer n (Bad e) = Err e
 answer n (Whole rows) = Ok rows
 answer n Short = Err (faults.Ended n)
+
+-- a fault stays, however the text goes on
+abbrev pub FaultsStay : Type 0
+FaultsStay = (text more : List ℕ) (most : ℕ) (e : StreamFault) → stream text most ≡ Bad e → stream (text ++ more) most ≡ Bad e

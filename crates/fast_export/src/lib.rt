@@ -6,10 +6,12 @@ mod commits;
 mod cut;
 mod fault;
 mod grammar;
+mod law;
 mod line;
 mod opening;
 mod reader;
 mod reading;
 
 pub use fault::StreamFault;
+pub use law::a_fault_stays;
 pub use reader::Reader;
