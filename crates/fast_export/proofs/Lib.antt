@@ -1,6 +1,7 @@
 pub mod Cuts
 pub mod Ends
 pub mod Fed
+pub mod OfLines
 pub mod Left
 pub mod Numbers
 pub mod Places

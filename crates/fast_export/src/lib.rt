@@ -13,5 +13,5 @@ mod reader;
 mod reading;
 
 pub use fault::StreamFault;
-pub use law::a_fault_stays;
+pub use law::{a_fault_stays, the_end_is_a_fault_of_short_texts};
 pub use reader::Reader;

@@ -3,7 +3,8 @@ use crate::reading::Reading;
 use osv_prim::{CommitRow, List, Memory};
 use std::alloc::Global;
 
-/// A reader of one stream. It keeps the rows, the marks of commits and the front of one line.
+/// A reader of one stream. It keeps the rows and the marks of the commits and at most one line; the bytes
+/// behind a line `data` are passed over by their count.
 #[derive(Drop)]
 pub struct Reader {
     reading: Reading,
@@ -17,7 +18,7 @@ impl Reader {
     ghost use Rattle.fast_export.specs.Stream.{stream, Bad, IsNoFault, answer};
     ghost use Rattle.fast_export.specs.Reads.{Reads, fault_of, fed_len};
 
-    /// A reader of a stream in which at most so many commits may come.
+    /// A reader of a stream in which at most `most` commits may come.
     pub fn new(alloc: Global, most: u32) -> Result<Reader, Memory>
         ensures reads { IfOk result (λ r. Reads most [] r) }
         ensures count { IfOk result (λ r. fed_len r ≡ 0) }
@@ -29,8 +30,10 @@ impl Reader {
         })
     }
 
-    /// Reads the next piece of the stream, which may be of any size. After a fault each later call answers
-    /// that fault.
+    /// Reads the next piece of the stream, which may be of any size. The fault is the first one of all bytes
+    /// so far, found when its line's LF has come or the line's 65,537th byte; `Memory` comes where a row, a
+    /// mark or a line finds none. After a fault each later call answers that fault. Fewer than 2^64 bytes may
+    /// be fed in all.
     pub fn feed(&mut self, piece: &[u8]) -> Result<(), StreamFault>
         requires { fed_len self.old + length piece.now < 2 ^ 64 }
 
@@ -60,7 +63,9 @@ impl Reader {
         }
     }
 
-    /// The rows of the whole stream, in the order of its commits.
+    /// The rows of the whole stream, one for each commit and in their order: its id, and as its parents the
+    /// ids of `from` and of each `merge`. Where the stream may not end here the fault is `Ended` at the number
+    /// of its bytes.
     pub fn finish(self) -> Result<List<CommitRow>, StreamFault>
         ensures ok { IfOk result (λ rows. (most : ℕ) (fed : List ℕ) → Reads most fed self → answer (length fed) (stream fed most) ≡ Ok rows) }
         ensures err { IfErr result (λ e. e ≢ no_memory → (most : ℕ) (fed : List ℕ) → Reads most fed self
