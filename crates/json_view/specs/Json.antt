@@ -1,8 +1,8 @@
 -- JSON texts as values, and what a value has under a name (RFC 8259).
-use Rattle.std.specs.Prelude.{ℕ, List, [], ◌∷◌, Option, Some, None, option_map, option_and_then, Bool, true, false, if◌then◌else◌}
+use Rattle.std.specs.Prelude.{ℕ, List, [], ◌∷◌, Option, Some, None, option_map, option_and_then, if◌then◌else◌}
 use Rattle.std.specs.Str.{is_utf8}
 use Rattle.serde_json.specs.Data.{Data, null, boolean, number, string, array, object, Items, no_items, item}
-use Rattle.serde_json.specs.Find.{get, as_array, as_object}
+use Rattle.serde_json.specs.Find.{get, as_array}
 use Rattle.serde_json.specs.Read.{read}
 
 -- the value of bytes, where they are one JSON text in UTF-8

@@ -1,2 +1,3 @@
 pub mod Json
+pub mod Trees
 pub mod Views

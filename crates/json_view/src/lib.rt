@@ -1,8 +1,9 @@
-//! JSON values that are looked into, over the reading of `serde_json`.
+//! JSON values that are looked into, read as `serde_json` reads them.
 #![tactic(auto)]
 
 mod document;
 mod node;
+mod numbers;
 
-pub use document::{Document, JsonFault};
+pub use document::{Document, JsonFault, Room};
 pub use node::{Elements, Node};

@@ -1,5 +1,5 @@
 -- Reading one after another, as a loop does.
-use Rattle.std.proofs.Common.{◌≡◌, List, [], ◌∷◌, ◌++◌, Result, Ok, Err, refl, sym, ap, subst, ◌∙◌, append_assoc}
+use Rattle.std.proofs.Common.{◌≡◌, List, [], ◌∷◌, ◌++◌, Result, Ok, Err, refl, sym, ap, ◌∙◌, append_assoc}
 use Rattle.std.proofs.lemmas.List.{append-nil}
 use Rattle.osv_prim.specs.declared.stop.Stop.{Stop}
 use Rattle.osv_prim.specs.declared.stop.Stop.TheVariants as stop

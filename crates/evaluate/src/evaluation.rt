@@ -1,0 +1,62 @@
+ghost use Rattle.std.specs.Prelude.{◌≡◌, map, IfOk};
+ghost use Rattle.std.specs.Arc.{arc_value};
+ghost use Rattle.std.specs.BTreeMap.{values};
+ghost use Rattle.evaluate.specs.Hits.{hits, keyed};
+
+use crate::hit::is_hit_by;
+use osv_prim::{Id, Memory, Subject};
+use osv_record::Record;
+use std::alloc::{AllocError, Global};
+use std::collections::BTreeMap;
+use std::sync::Arc;
+
+/// Of imports in order, those that hit what is asked, ascending by id. Of several with one id the
+/// last counts, also where it is the one that doesn't hit.
+pub fn hits(
+    alloc: Global,
+    records: &[Arc<Record>],
+    subject: &Subject,
+) -> Result<Vec<Arc<Record>>, Memory>
+    ensures { IfOk result (λ v. map (λ a. arc_value a) v.items ≡ hits (map (λ a. arc_value a) records.now) subject.now) }
+{
+    let found = hits_by_id(alloc, records, subject)?;
+    shared(alloc, values_of(alloc, found)?.as_slice())
+}
+
+// Only hits are kept, so the map stays small beside the imports, and few look-ups miss the cache.
+fn hits_by_id<'a>(
+    alloc: Global,
+    records: &'a [Arc<Record>],
+    subject: &Subject,
+) -> Result<BTreeMap<&'a Id, &'a Arc<Record>>, Memory>
+    ensures { IfOk result (λ m. map (λ e. (e.0.now, arc_value e.1.now)) m.entries ≡ map keyed (hits (map (λ a. arc_value a) records.now) subject.now)) }
+{
+    let mut found = BTreeMap::new(alloc);
+    for record in records {
+        if is_hit_by(alloc, record, subject)? {
+            found.insert(&record.id, record)?;
+        } else {
+            found.remove(&&record.id);
+        }
+    }
+    Ok(found)
+}
+
+fn values_of<'a>(
+    alloc: Global,
+    found: BTreeMap<&'a Id, &'a Arc<Record>>,
+) -> Result<Vec<&'a Arc<Record>>, AllocError>
+    ensures { IfOk result (λ v. v.items ≡ values found.entry) }
+{
+    found.into_values().collect(alloc)
+}
+
+fn shared(alloc: Global, found: &[&Arc<Record>]) -> Result<Vec<Arc<Record>>, Memory>
+    ensures { IfOk result (λ v. map (λ a. arc_value a) v.items ≡ map (λ a. arc_value a.now) found.now) }
+{
+    let mut records = Vec::with_capacity(alloc, found.len())?;
+    for record in found {
+        records.push(Arc::try_clone(record)?)?;
+    }
+    Ok(records)
+}

@@ -1,0 +1,63 @@
+ghost use Rattle.std.specs.Prelude.{◌≡◌, ◌++◌, ◌∷◌, [], List, IfOk, OnOk, OnErr};
+ghost use Rattle.osv_record.specs.Advisories.{Advisory};
+ghost use Rattle.evaluate.specs.Hits.{hit_ids};
+
+use crate::hit::is_hit_by;
+use osv_prim::{Id, Memory, Subject};
+use osv_record::Record;
+use std::alloc::{AllocError, Global};
+use std::collections::BTreeSet;
+use std::marker::Model;
+
+/// The ids of the hits of imports that come one after another. No import is kept, so it holds no
+/// more than the ids of the hits. Contracts see the ids, ascending.
+#[derive(Drop)]
+pub struct HitIds {
+    ids: BTreeSet<Id>,
+}
+
+impl Model for HitIds {
+    ghost use Rattle.std.specs.Prelude.{List, ℕ};
+
+    ghost Value = { List (List ℕ) };
+
+    ghost view = { λ h. h.ids.keys };
+}
+
+impl HitIds {
+    /// The hits of no imports.
+    pub fn new(alloc: Global) -> HitIds
+        ensures { result ≡ [] }
+    {
+        HitIds {
+            ids: BTreeSet::new(alloc),
+        }
+    }
+
+    /// One more import, which takes the place of an earlier one of its id. A refused one changes
+    /// nothing. It takes O(log n) comparisons of ids, n being the hits so far.
+    pub fn import(&mut self, alloc: Global, record: Record, subject: &Subject) -> Result<(), Memory>
+        ensures ok { OnOk result ((imports : List Advisory) → self.old ≡ hit_ids imports subject.now
+            → self.new ≡ hit_ids (imports ++ «record» ∷ []) subject.now) }
+        ensures err { OnErr result (self.new ≡ self.old) }
+    {
+        if is_hit_by(alloc, &record, subject)? {
+            let Record {
+                id,
+                affected: _,
+                text: _,
+            } = record;
+            self.ids.insert(id)?;
+        } else {
+            self.ids.remove(&record.id);
+        }
+        Ok(())
+    }
+
+    /// The ids, ascending.
+    pub fn into_vec(self, alloc: Global) -> Result<Vec<Id>, AllocError>
+        ensures { IfOk result (λ v. v.items ≡ self) }
+    {
+        self.ids.into_iter().collect(alloc)
+    }
+}

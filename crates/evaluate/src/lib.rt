@@ -1,0 +1,11 @@
+//! Which advisories hit what is asked: the definitions, and plain functions for them.
+#![tactic(auto)]
+
+mod evaluation;
+mod hit;
+mod hit_ids;
+pub mod laws;
+
+pub use evaluation::hits;
+pub use hit::version_hit;
+pub use hit_ids::HitIds;

@@ -1,0 +1,4 @@
+pub mod Advisories
+pub mod Reading
+pub mod Imports
+pub mod Faults

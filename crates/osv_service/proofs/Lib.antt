@@ -1,0 +1,4 @@
+pub mod Counted
+pub mod Cut
+pub mod Ending
+pub mod Reading

@@ -1,0 +1,6 @@
+pub mod Input
+pub mod Lines
+pub mod Cursor
+pub mod Words
+pub mod Asked
+pub mod Run
