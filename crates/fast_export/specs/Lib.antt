@@ -1,0 +1,12 @@
+pub use Rattle.osv_prim.specs.Oids
+pub mod Faults
+pub mod Lines
+pub mod Grammar
+pub mod Facts
+pub mod Says
+pub mod Commits
+pub mod Stream
+pub mod Following
+pub mod Offers
+pub mod Reading
+pub mod Reads
