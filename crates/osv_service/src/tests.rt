@@ -6,6 +6,15 @@ use std::test::Fail;
 
 const ASK: [&str; 4] = ["ask", "npm", "p", "1.0.0"];
 
+const ROW: &str = concat!(
+    r#"{"id":"X-2","modified":"2024-01-01T00:00:00Z","affected":[{"package":{"ecosystem":"npm","name":"p"},"versions":["1.0.0"]}]}"#,
+    "\n",
+    r#"{"id":"X-1","modified":"2024-01-01T00:00:00Z","affected":[{"package":{"ecosystem":"npm","name":"p"},"versions":["1.0.0"]}]}"#,
+    "\n",
+    r#"{"id":"X-3","modified":"2024-01-01T00:00:00Z","affected":[{"package":{"ecosystem":"npm","name":"p"},"versions":["2.0.0"]}]}"#,
+    "\n",
+);
+
 const TWO: &str = concat!(
     r#"{"id":"X-2","affected":[{"package":{"ecosystem":"npm","name":"p"},"versions":["1.0.0"]}]}"#,
     "\n\n",
@@ -47,30 +56,114 @@ fn run_over(
     Ok((status, sink.bytes() == wanted))
 }
 
+// What a run is given, and what it has to end with.
+struct Run {
+    words: [&'static str; 4],
+    input: &'static str,
+    status: u8,
+    output: &'static str,
+}
+
+const SPELLED: &str =
+    r#"{"id":"X-1","affected":[{"package":{"ecosystem":"PyPI:x","name":"My__.Pkg"},"versions":["1.0"]}]}"#;
+
+const RELEASE: &str =
+    r#"{"id":"X-1","affected":[{"package":{"ecosystem":"Debian:12","name":"a"},"versions":[""]}]}"#;
+
+const RUNS: [Run; 11] = [
+    Run {
+        words: ASK,
+        input: ROW,
+        status: 0,
+        output: "X-1\nX-2\n",
+    },
+    Run {
+        words: ASK,
+        input: TWO,
+        status: 0,
+        output: "X-1\nX-2\n",
+    },
+    Run {
+        words: ASK,
+        input: OVER,
+        status: 0,
+        output: "",
+    },
+    Run {
+        words: ASK,
+        input: "",
+        status: 0,
+        output: "",
+    },
+    Run {
+        words: ["ask", "PyPI", "MY-pkg", "1.0"],
+        input: SPELLED,
+        status: 0,
+        output: "X-1\n",
+    },
+    Run {
+        words: ["ask", "PyPI:y", "my-pkg", "1.0"],
+        input: SPELLED,
+        status: 0,
+        output: "",
+    },
+    Run {
+        words: ["ask", "Debian", "a", ""],
+        input: RELEASE,
+        status: 0,
+        output: "X-1\n",
+    },
+    Run {
+        words: ["ask", "Debian:11", "a", ""],
+        input: RELEASE,
+        status: 0,
+        output: "",
+    },
+    Run {
+        words: ["ask", "npm", "p", "-1"],
+        input: TWO,
+        status: 2,
+        output: crate::program::USAGE,
+    },
+    Run {
+        words: ASK,
+        input: "\n\n{",
+        status: 5,
+        output: "refused line 3 1 NotJson\n",
+    },
+    Run {
+        words: ASK,
+        input: "\n[]",
+        status: 5,
+        output: "refused line 2 16 NotBuilt\n",
+    },
+];
+
 // A program that always answers want of memory fails here.
 #[test]
 fn runs_end_with_their_status_and_output(rt: HostRuntime) -> Result<(), Fail> {
     for most in [1u64, 7, 1 << 20] {
-        for (input, status, output) in [
-            (TWO, 0u8, "X-1\nX-2\n"),
-            (OVER, 0, ""),
-            ("", 0, ""),
-            ("\n\n{", 5, "refused line 3 1 NotJson\n"),
-            ("\n[]", 5, "refused line 2 16 NotBuilt\n"),
-        ] {
-            let end = run_over(&rt, &ASK, input, (None, None), most, output.as_bytes())?;
-            assert_eq!(rt; end, (status, true), "{input} at {most}");
+        for run in &RUNS {
+            let end = run_over(
+                &rt,
+                &run.words,
+                run.input,
+                (None, None),
+                most,
+                run.output.as_bytes(),
+            )?;
+            assert_eq!(rt; end, (run.status, true), "{} at {most}", run.input);
         }
-        let end = run_over(
-            &rt,
-            &["ask", "npm"],
-            TWO,
-            (None, None),
-            most,
-            crate::program::USAGE.as_bytes(),
-        )?;
-        assert_eq!(rt; end, (2, true), "usage at {most}");
     }
+    let end = run_over(
+        &rt,
+        &["ask", "npm"],
+        TWO,
+        (None, None),
+        1,
+        crate::program::USAGE.as_bytes(),
+    )?;
+    assert_eq!(rt; end, (2, true), "too few words");
     Ok(())
 }
 
