@@ -1,5 +1,0 @@
-//! Tables over the crates that read advisories, with values from outside.
-#![tactic(auto)]
-
-#[cfg(test)]
-mod tests;
