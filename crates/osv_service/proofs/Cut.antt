@@ -1,8 +1,8 @@
 -- A text cut at its first line end.
-use Rattle.std.proofs.Common.{◌≡◌, inl, inr, ℕ, suc, ◌+◌, ◌-◌, ◌<◌, ◌≤◌, Bool, true, false, List, [], ◌∷◌, ◌++◌, length, take, drop, drop-cons, get_or, refl, sym, ap, subst, ◌∙◌, add-one, arith}
+use Rattle.std.proofs.Common.{◌≡◌, inl, inr, ℕ, suc, ◌+◌, ◌<◌, ◌≤◌, Bool, true, false, List, [], ◌∷◌, ◌++◌, length, take, drop, drop-cons, get_or, refl, sym, ap, subst, ◌∙◌, add-one, arith}
 use Rattle.std.specs.Prelude.{◌==◌, filter}
 use Rattle.std.specs.List.{slice_split, enumerate_from}
-use Rattle.std.proofs.lemmas.List.{take-append-drop, get_or_default, get_or-take, length-take-le, take_all, length-drop}
+use Rattle.std.proofs.lemmas.List.{take-append-drop, get_or_default, get_or-take, length-take-le}
 use Rattle.std.proofs.lemmas.List.Splits.{slice_split_none, slice_split_at}
 use Rattle.osv_service.specs.Lines.{lines, numbered, has_bytes, CutsLine}
 
@@ -50,7 +50,3 @@ given n text (c ∷ cs) after cut some = numbered-cut n text (c ∷ cs) after cu
 pub all_given : (n : ℕ) (text : List ℕ) → length text ≡ 0 → numbered n text ≡ []
 all_given n [] none = refl
 all_given n (c ∷ cs) none = absurd (omega arith)
-
--- what `&text[at..]` is
-pub rest_from : (at : ℕ) (text : List ℕ) → take (length text - at) (drop at text) ≡ drop at text
-rest_from at text = take_all _ (drop at text) (omega (arith, length-drop at text))

@@ -1,6 +1,7 @@
 use Rattle.std.proofs.Common.{◌+◌, List, ℕ, take, subst, sym}
+use Rattle.edge_io.proofs.Known.{rest_from}
 use Rattle.osv_service.specs.Lines.{CutsLine}
-use Rattle.osv_service.proofs.Cut.{uncut, cut_at, rest_from}
+use Rattle.osv_service.proofs.Cut.{uncut, cut_at}
 use Rattle.osv_service.proofs.lines.cut_line.Goals as goal
 
 pub returns-in-Some-clause-cut : goal.returns-in-Some-clause-cut
