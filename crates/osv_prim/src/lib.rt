@@ -3,24 +3,28 @@
 
 mod bytes;
 mod digits;
+mod event;
 mod id;
 mod list;
 mod memory;
 mod oid;
 mod package;
 mod read_version;
+mod repo;
 mod stop;
 mod subject;
 mod text;
 
 pub use bytes::Bytes;
 pub use digits::{Digits, digits_cmp, identifiers_cmp, split_digits};
+pub use event::{Event, EventKind, RangeKind};
 pub use id::{Id, IdFault};
 pub use list::List;
 pub use memory::Memory;
 pub use oid::{CommitRow, NotAnId, Oid};
 pub use package::PackageKey;
 pub use read_version::ReadVersion;
+pub use repo::RepoKey;
 pub use stop::Stop;
 pub use subject::Subject;
 pub use text::Text;
