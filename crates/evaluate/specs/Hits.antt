@@ -1,5 +1,5 @@
 -- Which advisories hit what is asked (OSV schema 1.6, "Evaluation").
-use Rattle.std.specs.Prelude.{ℕ, List, Bool, true, false, ◌&&◌, Option, Some, None, filter, map}
+use Rattle.std.specs.Prelude.{ℕ, List, Bool, true, false, not, ◌&&◌, Option, Some, None, filter, map}
 use Rattle.std.specs.List.{list_any}
 use Rattle.std.specs.Str.{bytes_eq}
 use Rattle.osv_prim.specs.declared.package.PackageKey.{PackageKey}
@@ -23,8 +23,9 @@ is_listed (Some t) versions = list_any (λ v. bytes_eq t v) versions
 abbrev pub version_hit : Advisory → PackageKey → Option (List ℕ) → Bool
 version_hit r k t = list_any (λ a. is_of k a.«package» && is_listed t a.versions) r.affected
 
+-- the advisory is not withdrawn, and hits what is asked
 abbrev pub hit : Subject → Advisory → Bool
-hit (Package k t) r = version_hit r k t
+hit (Package k t) r = not r.withdrawn && version_hit r k t
 
 -- the last import of each id, where it hits, ascending by id
 abbrev pub hits : List Advisory → Subject → List Advisory

@@ -54,6 +54,9 @@ fn is_among(text: &str, versions: &[Text]) -> bool
 pub(crate) fn is_hit_by(alloc: Global, record: &Record, subject: &Subject) -> Result<bool, Memory>
     ensures { IfOk result (λ b. b ≡ hit subject.now record.now) }
 {
+    if record.withdrawn {
+        return Ok(false);
+    }
     match subject {
         Subject::Package(asked, version) => match version {
             Some(text) => version_hit(alloc, record, asked, Some(text.as_str())),
