@@ -1,6 +1,6 @@
 -- The advisory that bytes are, or the first refusal (OSV schema 1.6; the order of the tests is our own). The tests stand
 -- in the order in which they are made.
-use Rattle.std.specs.Prelude.{◌≡◌, ℕ, Bool, true, false, List, [], ◌∷◌, length, Option, Some, None, is_some, option_and_then, Result, Ok, Err, nat_lt, if◌then◌else◌, ◌&&◌, ◌==◌, codes, ℤ}
+use Rattle.std.specs.Prelude.{◌≡◌, ℕ, Bool, true, false, List, [], ◌∷◌, length, Option, Some, None, is_some, option_and_then, Result, Ok, Err, nat_lt, if◌then◌else◌, ◌&&◌, not, codes, ℤ}
 use Rattle.std.specs.List.{list_any, list_all}
 use Rattle.std.specs.Str.{bytes_eq}
 use Rattle.serde_json.specs.Data.{Data}
@@ -156,9 +156,9 @@ record_of bytes d =
     affected_of (named (codes "affected") advisory) >>= λ affected.
     Ok (record { id = id; modified = modified.0; modified_text = modified.1; withdrawn = withdrawn; affected = affected; text = bytes })
 
--- what is evaluated so far: entries with a package and without ranges
+-- what is evaluated so far: entries with a package, and without GIT ranges
 abbrev pub is_built : List Entry → Bool
-is_built entries = list_all (λ (a : Entry). is_some a.«package» && length a.ranges == 0) entries
+is_built entries = list_all (λ (a : Entry). is_some a.«package» && not (list_any (λ (r : Extent). is_git r.kind) a.ranges)) entries
 
 abbrev pub built : Advisory → Result Advisory RecordFault
 built r = when (is_built r.affected) refusal.NotBuilt r

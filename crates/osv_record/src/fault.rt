@@ -57,7 +57,7 @@ pub enum RecordFault {
     BadEvent,
     /// No event of a range is `introduced`.
     NoIntroduced,
-    /// The advisory has what is not evaluated yet: a range, or an entry without a package.
+    /// The advisory has what is not evaluated yet: a GIT range, or an entry without a package.
     NotBuilt,
     /// Want of memory.
     Memory,
