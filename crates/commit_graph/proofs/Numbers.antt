@@ -55,3 +55,14 @@ id_at-row graph k d lt = get_or-map (λ (r : CommitRow). r.oid) graph k d [] lt
 
 pub parents_at-row : (graph : List CommitRow) (k : ℕ) (d : CommitRow) → k < length graph → parents_at graph k ≡ (get_or graph k d).parents
 parents_at-row graph k d lt = get_or-map (λ (r : CommitRow). r.parents) graph k d [] lt
+
+-- ---- a copy, row after row
+
+module _ (rows so_far : List CommitRow) (k : ℕ) (r : CommitRow) (lt : k < length rows) (is : so_far ≡ take k rows) (at : r ≡ get_or rows k r) where
+  pub copy_absent : IsLegal rows → has so_far r.oid ≡ false
+  copy_absent legal =
+      ap (λ (g : List CommitRow). has g r.oid) is ∙ ap (has (take k rows)) (ap (λ (x : CommitRow). x.oid) at ∙ sym (id_at-row rows k r lt)) ∙ absent_before rows legal k lt
+
+  pub copy_parents : (ns : List ℕ) → map (id_at rows) ns ≡ parents_at rows k → All (λ n. n < k) ns → map (id_at so_far) ns ≡ r.parents
+  copy_parents ns named below =
+      ap (λ (g : List CommitRow). map (id_at g) ns) is ∙ named_before rows k ns below ∙ named ∙ parents_at-row rows k r lt ∙ ap (λ (x : CommitRow). x.parents) (sym at)

@@ -1,4 +1,4 @@
-ghost use Rattle.std.specs.Prelude.{◌≡◌, ◌↔◌, ◌+◌, ◌-◌, ◌^◌, ◌<◌, ◌∷◌, [], ◌++◌, length, map, min, option_map, slice_get, All, IfOk, IsTrue, false};
+ghost use Rattle.std.specs.Prelude.{◌≡◌, ◌↔◌, ◌+◌, ◌-◌, ◌^◌, ◌<◌, ◌∷◌, [], ◌++◌, length, map, min, option_map, slice_get, All, IfOk, IsTrue, is_some, false};
 ghost use Rattle.osv_prim.specs.Graphs.{has, number_of, id_at, parents_at, IsLegal};
 ghost use Rattle.commit_graph.specs.Linked.{weight_of};
 
@@ -75,7 +75,8 @@ impl Graph {
 
     /// The number of a commit's row.
     pub fn number_of(&self, oid: &Oid) -> Option<u32>
-        ensures { result ≡ number_of self.now oid.now }
+        ensures number { result ≡ number_of self.now oid.now }
+        ensures found { is_some result ≡ has self.now oid.now }
     {
         self.ids.get_index_of(oid).map(|number| number as u32)
     }
