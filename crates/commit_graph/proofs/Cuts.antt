@@ -1,5 +1,5 @@
 -- A list of lists as one list and the ends of its pieces.
-use Rattle.std.proofs.Common.{◌≡◌, ℕ, zero, suc, ◌+◌, ◌-◌, ◌<◌, ◌≤◌, List, [], ◌∷◌, ◌++◌, length, get_or, take, drop, sum_by, refl, sym, ap, subst, ◌∙◌, arith, length-append, length-drop}
+use Rattle.std.proofs.Common.{◌≡◌, ℕ, zero, suc, ◌+◌, ◌-◌, ◌<◌, ◌≤◌, List, [], ◌∷◌, ◌++◌, length, get_or, take, drop, sum_by, refl, sym, ap, ◌∙◌, arith, length-append, length-drop}
 use Rattle.std.specs.List.{slice_range}
 use Rattle.std.proofs.lemmas.List.{drop_at, drop-append-le, take-append-le, take_all, length-take}
 use Rattle.std.proofs.lemmas.List.Sums.{sum_by-cons}
@@ -56,5 +56,9 @@ length-slice_range start end numbers p q = omega (arith, length-take (end - star
 pub total-pieces : (start : ℕ) (ends numbers : List ℕ) → IsCut start ends (length numbers) → sum_by length (pieces start ends numbers) + start ≡ length numbers
 total-pieces start [] numbers cut = omega (arith, cut)
 total-pieces start (end ∷ ends) numbers cut =
-    omega (arith, sum_by-cons length (slice_range numbers start end) (pieces end ends numbers), total-pieces end ends numbers cut.1,
-    length-slice_range start end numbers cut.0 (within end ends (length numbers) cut.1))
+    omega (
+      arith,
+      sum_by-cons length (slice_range numbers start end) (pieces end ends numbers),
+      total-pieces end ends numbers cut.1,
+      length-slice_range start end numbers cut.0 (within end ends (length numbers) cut.1),
+    )

@@ -1,11 +1,10 @@
 -- Numbers of rows beside their ids, and a graph's first rows.
-use Rattle.std.proofs.Common.{◌≡◌, ◌≢◌, ℕ, suc, ◌+◌, ◌<◌, ◌≤◌, ◌⊎◌, inl, inr, Bool, true, false, List, [], ◌∷◌, ◌++◌, length, map, take, get_or, All, Option, Some, None, is_some, position, refl, sym, ap, subst, ◌∙◌, arith}
-use Rattle.std.specs.List.{list_any, list_all}
+use Rattle.std.proofs.Common.{◌≡◌, ◌≢◌, ℕ, ◌<◌, inl, inr, false, List, [], length, map, take, get_or, All, Some, sym, ap, subst, ◌∙◌, arith}
 use Rattle.std.specs.Str.{bytes_eq}
-use Rattle.std.proofs.lemmas.Bool.{true≢false, cases_Bool}
-use Rattle.std.proofs.lemmas.List.{length-map, get_or-map, get_or-take, take-map, length-take-le}
+use Rattle.std.proofs.lemmas.Bool.{cases_Bool}
+use Rattle.std.proofs.lemmas.List.{get_or-map, get_or-take, take-map, length-take-le}
 use Rattle.std.proofs.lemmas.List.Elements.{All-weaker, All-from_get_or}
-use Rattle.std.proofs.lemmas.List.Folds.{list_any_none, list_any_at}
+use Rattle.std.proofs.lemmas.List.Folds.{list_any_none}
 use Rattle.std.proofs.lemmas.List.Quantifiers.{position-Some}
 use Rattle.std.proofs.lemmas.Slice.Eq.{bytes_eq-Decides}
 use Rattle.osv_prim.specs.declared.oid.CommitRow.{CommitRow}
@@ -46,8 +45,8 @@ module _ (graph : List CommitRow) (legal : IsLegal graph) (k : ℕ) (lt : k < le
       (subst (λ (xs : List (List ℕ)). All (λ x. bytes_eq (id_at graph k) x ≡ false) xs) (take-map (λ (r : CommitRow). r.oid) k graph)
       (All-from_get_or (λ x. bytes_eq (id_at graph k) x ≡ false) (take k (ids graph)) []
       (λ i i_lt.
-          let within : i < k = omega (arith, length-take-le k (ids graph) (omega (arith, length-ids graph))) in
-          subst (λ (x : List ℕ). bytes_eq (id_at graph k) x ≡ false) (sym (get_or-take k (ids graph) i [] within)) (before_differs i within))))
+      let within : i < k = omega (arith, length-take-le k (ids graph) (omega (arith, length-ids graph))) in
+      subst (λ (x : List ℕ). bytes_eq (id_at graph k) x ≡ false) (sym (get_or-take k (ids graph) i [] within)) (before_differs i within))))
 
 -- the id and the parents of a row, by its number
 pub id_at-row : (graph : List CommitRow) (k : ℕ) (d : CommitRow) → k < length graph → id_at graph k ≡ (get_or graph k d).oid

@@ -1,5 +1,5 @@
 -- What is wrong with rows that are joined to a graph, and how it is printed (our own).
-use Rattle.std.specs.Prelude.{◌≡◌, ℕ, ◌<◌, Bool, not, ◌==◌, if◌then◌else◌, nat_le, List, length, take, option_map, Option, Some, None, codes, slice_get}
+use Rattle.std.specs.Prelude.{◌≡◌, ℕ, ◌<◌, Bool, not, if◌then◌else◌, nat_le, List, length, take, Option, Some, None, codes, slice_get}
 use Rattle.std.specs.List.{list_any, list_all}
 use Rattle.std.specs.Option.{option_map_or}
 use Rattle.std.specs.Str.{bytes_eq}

@@ -1,4 +1,4 @@
-use Rattle.std.proofs.Common.{◌≡◌, ℕ, ◌-◌, get_or, List, take, drop, arith, sym, ap, ◌∙◌}
+use Rattle.std.proofs.Common.{ℕ, get_or, arith, sym, ap, ◌∙◌}
 use Rattle.std.specs.List.{slice_range}
 use Rattle.commit_graph.proofs.Cuts.{piece_at}
 use Rattle.commit_graph.proofs.number_lists.list_at.Goals as goal

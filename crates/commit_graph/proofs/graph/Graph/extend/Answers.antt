@@ -1,4 +1,4 @@
-use Rattle.std.proofs.Common.{◌≡◌, ◌+◌, ◌≤◌, arith, sym, ◌∙◌}
+use Rattle.std.proofs.Common.{arith, ◌∙◌}
 use Rattle.std.proofs.lemmas.Result.{err_from_is_err_and}
 use Rattle.commit_graph.proofs.Faulty.{joined_more, still_sound, first_fault}
 use Rattle.commit_graph.proofs.graph.Graph.extend.Goals as goal
@@ -8,7 +8,7 @@ returns-in_err-graph-2-clause-fault g c =
     let p = err_from_is_err_and c.from_residual-in_err-graph-2.result c.from_residual-in_err-graph-2.ensures.1 in
     rw (p.1, p.2)
     (λ other. first_fault c.args.self.now c.args.most c.args.rows.now c.loop-place.place c.index-rows-place.result c.loop-place-test.true c.index-rows-place.is
-        c.loop-place.graph c.in_err-graph-2.field-0.0 c.loop-place.invariant.so_far (c.in_err-graph-2.ensures.fault other) c.loop-place.invariant.sound)
+    c.loop-place.graph c.in_err-graph-2.field-0.0 c.loop-place.invariant.so_far (c.in_err-graph-2.ensures.fault other) c.loop-place.invariant.sound)
 
 pub loop-place-preserved : goal.loop-place-preserved
 loop-place-preserved g c =

@@ -9,5 +9,5 @@ invariant-loop-place g l =
       so_far : l.graph ≡ joined l.self (take l.place l.rows);
       sound : (k : ℕ) → k < l.place → fault_at l.self l.most l.rows k ≡ None;
       steps : l.steps.graph ≤ l.fn.steps.graph + l.place;
-      records : l.steps.record_count ≡ l.fn.steps.record_count
+      records : l.steps.record_count ≡ l.fn.steps.record_count;
     }

@@ -8,5 +8,5 @@ invariant-loop-oid l =
     record {
       known : list_all (has l.self) (take l.oid-index l.oids) ≡ true;
       named : map (id_at l.self) l.numbers.items ≡ take l.oid-index l.oids;
-      below : All (λ n. n < length l.self) l.numbers.items
+      below : All (λ n. n < length l.self) l.numbers.items;
     }

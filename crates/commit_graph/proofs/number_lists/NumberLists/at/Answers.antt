@@ -1,5 +1,4 @@
-use Rattle.std.proofs.Common.{ℕ, List, [], get_or, length, arith, ap, ◌∙◌}
-use Rattle.commit_graph.specs.Pieces.{pieces}
+use Rattle.std.proofs.Common.{ℕ, List, [], get_or, length, arith, ap}
 use Rattle.commit_graph.proofs.Cuts.{length-pieces}
 use Rattle.commit_graph.proofs.number_lists.NumberLists.at.Goals as goal
 

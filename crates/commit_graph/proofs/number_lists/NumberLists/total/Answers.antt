@@ -1,4 +1,4 @@
-use Rattle.std.proofs.Common.{ℕ, List, length, sum_by, sym, ap, ◌∙◌, arith}
+use Rattle.std.proofs.Common.{length, sum_by, ap, arith}
 use Rattle.commit_graph.proofs.Cuts.{total-pieces}
 use Rattle.commit_graph.proofs.number_lists.NumberLists.total.Goals as goal
 
