@@ -1,4 +1,4 @@
-use Rattle.std.proofs.Common.{◌≤◌, length, refl, true, false, arith}
+use Rattle.std.proofs.Common.{◌≡◌, ℕ, ◌-◌, ◌+◌, ◌≤◌, List, length, take, refl, sym, ap, ◌∙◌, true, false, arith}
 use Rattle.std.proofs.lemmas.Str.Pattern.{ends_text}
 use Rattle.osv_prim.proofs.repo.without_end.Goals as goal
 
