@@ -1,6 +1,6 @@
 -- Graphs of commits, and which of their commits a GIT range affects (git's documentation, "gitglossary": commit,
 -- parent; OSV schema 1.6, "affected[].ranges[].events" and "Evaluation").
-use Rattle.std.specs.Prelude.{◌≡◌, ◌≢◌, ℕ, ◌+◌, ◌<◌, ◌≤◌, ◌⊎◌, Bool, true, false, not, ◌&&◌, ◌||◌, ◌==◌, if◌then◌else◌, IsTrue, List, [], ◌∷◌, ◌++◌, length, map, fold, take, position, slice_index_or, Option, Some, None, is_some, All, AllPairs, EachIndex, Any, Contains, codes}
+use Rattle.std.specs.Prelude.{◌≡◌, ◌≢◌, ℕ, ◌≤◌, ◌⊎◌, Bool, true, false, ◌&&◌, ◌||◌, if◌then◌else◌, IsTrue, List, [], ◌∷◌, ◌++◌, length, map, fold, take, position, slice_index_or, Option, is_some, All, AllPairs, EachIndex, Any, Contains, codes}
 use Rattle.std.specs.List.{list_any, list_all}
 use Rattle.std.specs.Option.{option_map_or}
 use Rattle.std.specs.Str.{bytes_eq}
