@@ -8,11 +8,12 @@ use crate::order::{acts, against, event_cmp, is_limit};
 use osv_prim::{Bound, EventKind, Memory};
 use std::alloc::Global;
 
-/// A range that is made once for many versions. It keeps disjoint intervals in order, each as the
-/// introduction that begins it and the event that ends it, and the greatest of the limits.
+/// A range that is made once for many versions: disjoint intervals in order, and one limit.
 #[derive(Debug, Drop)]
 pub struct Compiled<T> {
+    // By turns the introduction that begins an interval, and the event that ends it.
     turns: Vec<(EventKind, Bound<T>)>,
+    // The greatest, if there are limits.
     limit: Option<Bound<T>>,
 }
 
