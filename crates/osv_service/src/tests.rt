@@ -16,15 +16,15 @@ const ROW: &str = concat!(
 );
 
 const TWO: &str = concat!(
-    r#"{"id":"X-2","affected":[{"package":{"ecosystem":"npm","name":"p"},"versions":["1.0.0"]}]}"#,
+    r#"{"id":"X-2","modified":"2024-01-01T00:00:00Z","affected":[{"package":{"ecosystem":"npm","name":"p"},"versions":["1.0.0"]}]}"#,
     "\n\n",
-    r#"{"id":"X-1","affected":[{"package":{"ecosystem":"npm","name":"p"},"versions":["1.0.0"]}]}"#,
+    r#"{"id":"X-1","modified":"2024-01-01T00:00:00Z","affected":[{"package":{"ecosystem":"npm","name":"p"},"versions":["1.0.0"]}]}"#,
 );
 
 const OVER: &str = concat!(
-    r#"{"id":"X-1","affected":[{"package":{"ecosystem":"npm","name":"p"},"versions":["1.0.0"]}]}"#,
+    r#"{"id":"X-1","modified":"2024-01-01T00:00:00Z","affected":[{"package":{"ecosystem":"npm","name":"p"},"versions":["1.0.0"]}]}"#,
     "\n",
-    r#"{"id":"X-1","affected":[{"package":{"ecosystem":"npm","name":"p"},"versions":["2.0.0"]}]}"#,
+    r#"{"id":"X-1","modified":"2024-01-01T00:00:00Z","affected":[{"package":{"ecosystem":"npm","name":"p"},"versions":["2.0.0"]}]}"#,
     "\n",
 );
 
@@ -65,10 +65,10 @@ struct Run {
 }
 
 const SPELLED: &str =
-    r#"{"id":"X-1","affected":[{"package":{"ecosystem":"PyPI:x","name":"My__.Pkg"},"versions":["1.0"]}]}"#;
+    r#"{"id":"X-1","modified":"2024-01-01T00:00:00Z","affected":[{"package":{"ecosystem":"PyPI:x","name":"My__.Pkg"},"versions":["1.0"]}]}"#;
 
 const RELEASE: &str =
-    r#"{"id":"X-1","affected":[{"package":{"ecosystem":"Debian:12","name":"a"},"versions":[""]}]}"#;
+    r#"{"id":"X-1","modified":"2024-01-01T00:00:00Z","affected":[{"package":{"ecosystem":"Debian:12","name":"a"},"versions":[""]}]}"#;
 
 const RUNS: [Run; 11] = [
     Run {
@@ -135,7 +135,7 @@ const RUNS: [Run; 11] = [
         words: ASK,
         input: "\n[]",
         status: 5,
-        output: "refused line 2 16 NotBuilt\n",
+        output: "refused line 2 2 NotObject\n",
     },
 ];
 
