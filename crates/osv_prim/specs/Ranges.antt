@@ -11,11 +11,11 @@ use Rattle.osv_prim.specs.declared.event.EventKind.{EventKind}
 use Rattle.osv_prim.specs.declared.event.EventKind.TheVariants.{Introduced, Fixed, LastAffected, Limit}
 
 -- which event comes first at one bound
-abbrev pub turn : EventKind → ℕ
-turn Introduced = 0
-turn Fixed = 1
-turn LastAffected = 2
-turn Limit = 3
+abbrev pub kind_rank : EventKind → ℕ
+kind_rank Introduced = 0
+kind_rank Fixed = 1
+kind_rank LastAffected = 2
+kind_rank Limit = 3
 
 abbrev pub is_limit : EventKind → Bool
 is_limit Introduced = false
@@ -37,9 +37,9 @@ module _ {T : Type 0} (cmp : T → T → Ordering) where
   bound_cmp Endless (At u) = Greater
   bound_cmp Endless Endless = Equal
 
-  -- by bound, and at one bound by turn
+  -- by bound, and at one bound by kind
   abbrev pub event_cmp : EventKind × Bound T → EventKind × Bound T → Ordering
-  event_cmp = then_cmp (on (λ (e : EventKind × Bound T). e.1) bound_cmp) (on (λ (e : EventKind × Bound T). turn e.0) nat_cmp)
+  event_cmp = then_cmp (on (λ (e : EventKind × Bound T). e.1) bound_cmp) (on (λ (e : EventKind × Bound T). kind_rank e.0) nat_cmp)
 
   -- an event put among sorted ones, and events sorted
   abbrev pub placed : EventKind × Bound T → List (EventKind × Bound T) → List (EventKind × Bound T)

@@ -5,7 +5,7 @@ use Rattle.std.specs.Ordering.{is_gt, ordering_reverse, ordering_then}
 use Rattle.std.proofs.lemmas.Bool.{false≢true}
 use Rattle.std.proofs.lemmas.Cmp.{ranked}
 use Rattle.std.proofs.lemmas.List.{take_more}
-use Rattle.osv_prim.specs.Ranges.{bound_cmp, event_cmp, flag_after, flag_from, sorted, turn}
+use Rattle.osv_prim.specs.Ranges.{bound_cmp, event_cmp, flag_after, flag_from, kind_rank, sorted}
 use Rattle.osv_prim.specs.declared.bound.Bound.{Bound}
 use Rattle.osv_prim.specs.declared.event.EventKind.{EventKind}
 use Rattle.osv_prim.specs.declared.event.EventKind.TheVariants.{Introduced, Fixed, LastAffected, Limit}
@@ -27,7 +27,7 @@ abbrev last_of : {T : Type 0} → (T → T → Ordering) → T → List (EventKi
 last_of cmp v [] = None
 last_of cmp v (e ∷ es) = or_else (last_of cmp v es) (cond (acts cmp v e.0 e.1) (Some e) None)
 
-after_acts : {T : Type 0} (cmp : T → T → Ordering) (v : T) (flag : Bool) (k : EventKind) (b : Bound T) → flag_after cmp v flag k b ≡ cond (acts cmp v k b) (introduces k) flag
+pub after_acts : {T : Type 0} (cmp : T → T → Ordering) (v : T) (flag : Bool) (k : EventKind) (b : Bound T) → flag_after cmp v flag k b ≡ cond (acts cmp v k b) (introduces k) flag
 after_acts cmp v flag Introduced b = refl
 after_acts cmp v flag Fixed b = refl
 after_acts cmp v flag LastAffected b = refl
@@ -91,16 +91,16 @@ second_equal Less s e = absurd cc
 second_equal Equal s e = e
 second_equal Greater s e = absurd cc
 
-by_turn : (k : EventKind) → introduces k ≡ eqb (turn k) 0
-by_turn Introduced = refl
-by_turn Fixed = refl
-by_turn LastAffected = refl
-by_turn Limit = refl
+by_rank : (k : EventKind) → introduces k ≡ eqb (kind_rank k) 0
+by_rank Introduced = refl
+by_rank Fixed = refl
+by_rank LastAffected = refl
+by_rank Limit = refl
 
-same_kind : (j k : EventKind) → nat_cmp (turn j) (turn k) ≡ Equal → introduces j ≡ introduces k
+same_kind : (j k : EventKind) → nat_cmp (kind_rank j) (kind_rank k) ≡ Equal → introduces j ≡ introduces k
 same_kind j k e =
-    let is : turn j ≡ turn k = ranked (turn j) (turn k) Equal (sym e) in
-    by_turn j ∙ ap (λ (n : ℕ). eqb n 0) is ∙ sym (by_turn k)
+    let is : kind_rank j ≡ kind_rank k = ranked (kind_rank j) (kind_rank k) Equal (sym e) in
+    by_rank j ∙ ap (λ (n : ℕ). eqb n 0) is ∙ sym (by_rank k)
 
 one_latest : {T : Type 0} (cmp : T → T → Ordering) → IsTotalOrder cmp → (v : T) (es fs : List (EventKind × Bound T)) (l m : Option (EventKind × Bound T))
     → ((x : EventKind × Bound T) → IsAmong x es → IsAmong x fs) → ((x : EventKind × Bound T) → IsAmong x fs → IsAmong x es) → IsLatest cmp v es l → IsLatest cmp v fs m → is_introduced l ≡ is_introduced m
@@ -109,15 +109,23 @@ one_latest cmp o v es fs None (Some m) to from p q = absurd (false≢true (sym (
 one_latest cmp o v es fs (Some l) None to from p q = absurd (false≢true (sym (q l (to l p.0)) ∙ p.1))
 one_latest cmp o v es fs (Some l) (Some m) to from p q =
     let tie = equal_from (event_cmp cmp l m) (event_cmp cmp m l) ((event_total cmp o).antisymm l m) (q.2 l (to l p.0) p.1) (p.2 m (from m q.0) q.1) in
-    same_kind l.0 m.0 (second_equal (bound_cmp cmp l.1 m.1) (nat_cmp (turn l.0) (turn m.0)) tie)
+    same_kind l.0 m.0 (second_equal (bound_cmp cmp l.1 m.1) (nat_cmp (kind_rank l.0) (kind_rank m.0)) tie)
+
+flag-latest_of : {T : Type 0} (cmp : T → T → Ordering) (v : T) (es : List (EventKind × Bound T)) → flag_from cmp v false es ≡ is_introduced (last_of cmp v es)
+flag-latest_of cmp v es = flag-last cmp v false es ∙ clear (last_of cmp v es)
 
 -- of any list that ascends and has these events
 pub flag-latest : {T : Type 0} (cmp : T → T → Ordering) → IsTotalOrder cmp → (v : T) (es : List (EventKind × Bound T)) (m : Option (EventKind × Bound T)) → IsLatest cmp v es m
     → flag_from cmp v false (sorted cmp es) ≡ is_introduced m
 flag-latest cmp o v es m h =
-    flag-last cmp v false (sorted cmp es) ∙ clear (last_of cmp v (sorted cmp es))
+    flag-latest_of cmp v (sorted cmp es)
     ∙ one_latest cmp o v (sorted cmp es) es (last_of cmp v (sorted cmp es)) m (λ x. among-from_sorted cmp x es) (λ x. among-sorted cmp x es)
     (latest-last cmp o v (sorted cmp es) (ascends-sorted cmp o es)) h
+
+pub one_flag : {T : Type 0} (cmp : T → T → Ordering) → IsTotalOrder cmp → (v : T) (es fs : List (EventKind × Bound T)) → Ascends cmp es → Ascends cmp fs
+    → ((x : EventKind × Bound T) → IsAmong x es → IsAmong x fs) → ((x : EventKind × Bound T) → IsAmong x fs → IsAmong x es) → flag_from cmp v false es ≡ flag_from cmp v false fs
+one_flag cmp o v es fs a b to from =
+    flag-latest_of cmp v es ∙ one_latest cmp o v es fs (last_of cmp v es) (last_of cmp v fs) to from (latest-last cmp o v es a) (latest-last cmp o v fs b) ∙ sym (flag-latest_of cmp v fs)
 
 -- ---- one more event
 

@@ -3,7 +3,7 @@ use Rattle.std.proofs.Common.{◌≡◌, ℕ, List, [], ◌∷◌, Ordering, Les
 use Rattle.std.specs.Cmp.{IsTotalOrder, nat_cmp_total, on_total, then_total}
 use Rattle.std.specs.Cmp.Lexicographic.{lists_total, slice_cmp}
 use Rattle.std.specs.Ordering.{on, ordering_then, then_cmp}
-use Rattle.osv_prim.specs.Ranges.{bound_cmp, event_cmp, turn}
+use Rattle.osv_prim.specs.Ranges.{bound_cmp, event_cmp, kind_rank}
 use Rattle.osv_prim.specs.declared.bound.Bound.{Bound}
 use Rattle.osv_prim.specs.declared.bound.Bound.TheVariants.{Lowest, At, Endless}
 use Rattle.osv_prim.specs.declared.event.EventKind.{EventKind}
@@ -45,4 +45,4 @@ bound_total {T = T} cmp o =
 
 pub event_total : {T : Type 0} (cmp : T → T → Ordering) → IsTotalOrder cmp → IsTotalOrder (event_cmp cmp)
 event_total {T = T} cmp o =
-    then_total (on_total (λ (e : EventKind × Bound T). e.1) (bound_total cmp o)) (on_total (λ (e : EventKind × Bound T). turn e.0) nat_cmp_total)
+    then_total (on_total (λ (e : EventKind × Bound T). e.1) (bound_total cmp o)) (on_total (λ (e : EventKind × Bound T). kind_rank e.0) nat_cmp_total)

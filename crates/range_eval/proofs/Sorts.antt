@@ -1,12 +1,13 @@
 -- Events in order.
-use Rattle.std.proofs.Common.{◌≡◌, ◌⊎◌, inl, inr, Bool, true, false, cond, List, [], ◌∷◌, Ordering, Less, Equal, Greater, refl, sym, ap, subst, ◌∙◌}
+use Rattle.std.proofs.Common.{◌≡◌, ◌⊎◌, inl, inr, Bool, true, false, cond, List, [], ◌∷◌, Ordering, Less, Equal, Greater, refl, sym, subst, ◌∙◌}
 use Rattle.std.specs.Cmp.{IsTotalOrder, upto}
-use Rattle.std.specs.Ordering.{is_gt, is_lt, ordering_reverse}
+use Rattle.std.specs.Ordering.{is_gt, is_lt}
 use Rattle.std.proofs.lemmas.Bool.{false≢true}
 use Rattle.osv_prim.specs.Ranges.{event_cmp, placed, sorted}
 use Rattle.osv_prim.specs.declared.bound.Bound.{Bound}
 use Rattle.osv_prim.specs.declared.event.EventKind.{EventKind}
 use Rattle.range_eval.specs.Latest.{IsAmong}
+use Rattle.range_eval.proofs.Chains.{gt_turned}
 use Rattle.range_eval.proofs.Orders.{event_total}
 
 -- ---- what is among the sorted ones
@@ -48,11 +49,6 @@ NotBefore {T = T} cmp e es = (x : EventKind × Bound T) → IsAmong x es → is_
 abbrev pub Ascends : {T : Type 0} → (T → T → Ordering) → List (EventKind × Bound T) → Type 0
 Ascends cmp [] = Unit {0}
 Ascends cmp (e ∷ es) = NotBefore cmp e es × Ascends cmp es
-
-gt_turned : (r s : Ordering) → r ≡ ordering_reverse s → is_gt r ≡ is_lt s
-gt_turned r Less e = ap is_gt e
-gt_turned r Equal e = ap is_gt e
-gt_turned r Greater e = ap is_gt e
 
 not_gt : (r : Ordering) → is_lt r ≡ true → is_gt r ≡ false
 not_gt Less e = refl
