@@ -1,0 +1,4 @@
+pub mod Ids
+pub mod Naming
+pub mod Marking
+pub mod Searching
