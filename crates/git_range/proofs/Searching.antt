@@ -1,7 +1,7 @@
 -- Going down from a commit to where a range begins.
-use Rattle.std.proofs.Common.{◌≡◌, ◌≢◌, ℕ, suc, ◌+◌, ◌<◌, ◌≤◌, ◌⊎◌, inl, inr, Bool, true, false, not, ◌&&◌, ◌||◌, eqb, List, [], ◌∷◌, length, map, get_or, All, Contains, IsTrue, refl, sym, ap, subst, ◌∙◌, arith}
-use Rattle.std.proofs.lemmas.Bool.{cases_eq, and_parts, or_cases, and_from, eq-eqb, eqb-true, ne_eqb, true≢false, false≢true}
-use Rattle.std.proofs.lemmas.List.{length-map}
+use Rattle.std.proofs.Common.{◌≡◌, ◌≢◌, ℕ, suc, ◌+◌, ◌<◌, ◌≤◌, ◌⊎◌, inl, inr, Bool, true, false, not, ◌&&◌, ◌||◌, eqb, List, [], ◌∷◌, length, map, replicate, get_or, set, All, Contains, IsTrue, refl, sym, ap, subst, ◌∙◌, arith}
+use Rattle.std.proofs.lemmas.Bool.{cases_lt, cases_eq, and_parts, or_cases, and_from, eq-eqb, eqb-true, ne_eqb, true≢false, false≢true}
+use Rattle.std.proofs.lemmas.List.{length-map, length-set, length-replicate, get_or-replicate, get_or_past, get_or-set_same, get_or-set_other}
 use Rattle.std.proofs.lemmas.List.Elements.{All-cons, All-nil, All-head, All-tail}
 use Rattle.osv_prim.specs.Graphs.{ids, id_at, parents_at, IsLegal, IsParent, IsRoot, IsWalk, first_of, last_of, before_last, is_named, names_all, IsStart, IsReached}
 use Rattle.osv_prim.specs.declared.oid.CommitRow.{CommitRow}
@@ -81,6 +81,24 @@ open_before false false false p q = refl
 open_before true b x p q = absurd (true≢false p)
 open_before false true x p q = absurd (true≢false q)
 
+-- a fixed commit isn't reached
+pub closed_itself : (graph : List CommitRow) (events : List Event) (end : ℕ) → is_closed graph events end end ≡ true → IsReached graph events (id_at graph end) → ⊥
+closed_itself graph events end shut reached = by reached.walk reached.is_walk reached.ends reached.unfixed
+  where
+    fixed : (a b x : Bool) → x ≡ true → (a || (not x && b)) ≡ true → a ≡ true
+    fixed true b x e h = refl
+    fixed false b true e h = absurd (false≢true h)
+    fixed false b false e h = absurd (false≢true e)
+
+    is_fixed : is_named Fixed events (id_at graph end) ≡ true
+    is_fixed = fixed (is_named Fixed events (id_at graph end)) (is_named LastAffected events (id_at graph end)) (eqb end end) (eq-eqb end end refl) shut
+
+    by : (walk : List (List ℕ)) → IsWalk graph walk → last_of walk ≡ id_at graph end → All (λ x. is_named Fixed events x ≡ false) walk → ⊥
+    by [] w e u = w
+    by (a ∷ []) w e u =
+        true≢false (sym is_fixed ∙ subst (λ (x : List ℕ). is_named Fixed events x ≡ false) e (All-head (λ x. is_named Fixed events x ≡ false) a [] u))
+    by (a ∷ b ∷ rest) w e u = by (b ∷ rest) w.1 e (All-tail (λ x. is_named Fixed events x ≡ false) a (b ∷ rest) u)
+
 -- ---- the rows that were passed on the way down, and their marks
 
 pub record Searching (graph : List CommitRow) (events : List Event) (end at : ℕ) (marks : List Bool) : Type 0 where
@@ -93,7 +111,7 @@ pub record Searching (graph : List CommitRow) (events : List Event) (end at : �
       → get_or marks m false ≡ true
 
 -- at first only the commit itself is marked
-pub searching_first : (graph : List CommitRow) (events : List Event) (end : ℕ) (marks : List Bool) → end < length graph → is_closed graph events end end ≡ false → length marks ≡ end + 1
+searching_first : (graph : List CommitRow) (events : List Event) (end : ℕ) (marks : List Bool) → end < length graph → is_closed graph events end end ≡ false → length marks ≡ end + 1
     → get_or marks end false ≡ true → ((n : ℕ) → get_or marks n false ≡ true → n ≡ end) → Searching graph events end (end + 1) marks
 searching_first graph events end marks there unclosed size itself only =
     record {
@@ -107,6 +125,24 @@ searching_first graph events end marks there unclosed size itself only =
       no_start = λ n le lt. absurd (omega arith);
       passed = λ n m le lt. absurd (omega arith);
     }
+
+none_of : (k n : ℕ) → get_or (replicate k false) n false ≡ false
+none_of k n =
+    elim (cases_lt n k) [
+      | inl lt ↦ get_or-replicate k n false false lt
+      | inr le ↦ get_or_past (replicate k false) n false (omega (arith, length-replicate k false))
+    ]
+
+pub searching_start : (graph : List CommitRow) (events : List Event) (end : ℕ) (marks : List Bool) → end < length graph → is_closed graph events end end ≡ false
+    → marks ≡ replicate (end + 1) false → Searching graph events end (end + 1) (set marks end true)
+searching_start graph events end marks there unclosed fresh =
+    let size : length marks ≡ end + 1 = ap (λ (xs : List Bool). length xs) fresh ∙ length-replicate (end + 1) false in
+    searching_first graph events end (set marks end true) there unclosed (length-set marks end true ∙ size) (get_or-set_same marks end true false (omega arith))
+    (λ n h.
+        elim (cases_eq n end) [
+          | inl same ↦ same
+          | inr other ↦ absurd (false≢true (sym (get_or-set_other marks end n true false other ∙ ap (λ (xs : List Bool). get_or xs n false) fresh ∙ none_of (end + 1) n) ∙ h))
+        ])
 
 module _ (graph : List CommitRow) (legal : IsLegal graph) (events : List Event) (end : ℕ) (there : end < length graph) where
   -- a row that isn't marked, or that is closed, is passed over
@@ -235,48 +271,30 @@ module _ (graph : List CommitRow) (legal : IsLegal graph) (events : List Event) 
           let o = all_marked marks s a rest w e u d in
           s.no_start o.number (omega arith) o.within o.marked o.free (subst (IsStart graph events) (sym o.is) b)
 
-  -- a fixed commit isn't reached
-  pub closed_itself : is_closed graph events end end ≡ true → IsReached graph events (id_at graph end) → ⊥
-  closed_itself shut reached = by reached.walk reached.is_walk reached.ends reached.unfixed
-    where
-      fixed : (a b x : Bool) → x ≡ true → (a || (not x && b)) ≡ true → a ≡ true
-      fixed true b x e h = refl
-      fixed false b true e h = absurd (false≢true h)
-      fixed false b false e h = absurd (false≢true e)
-
-      is_fixed : is_named Fixed events (id_at graph end) ≡ true
-      is_fixed = fixed (is_named Fixed events (id_at graph end)) (is_named LastAffected events (id_at graph end)) (eqb end end) (eq-eqb end end refl) shut
-
-      by : (walk : List (List ℕ)) → IsWalk graph walk → last_of walk ≡ id_at graph end → All (λ x. is_named Fixed events x ≡ false) walk → ⊥
-      by [] w e u = w
-      by (a ∷ []) w e u =
-          true≢false (sym is_fixed ∙ subst (λ (x : List ℕ). is_named Fixed events x ≡ false) e (All-head (λ x. is_named Fixed events x ≡ false) a [] u))
-      by (a ∷ b ∷ rest) w e u = by (b ∷ rest) w.1 e (All-tail (λ x. is_named Fixed events x ≡ false) a (b ∷ rest) u)
-
   -- ---- where the range begins
 
-  module _ (at : ℕ) (lt : at < length graph) (ns : List ℕ) (named : map (id_at graph) ns ≡ parents_at graph at) (introduced : Bool)
-      (is : introduced ≡ is_named Introduced events (id_at graph at)) where
-    pub starts_here : (introduced || (names_all Introduced events && eqb (length ns) 0)) ≡ true → IsStart graph events (id_at graph at)
+  module _ (at : ℕ) (lt : at < length graph) (ns : List ℕ) (named : map (id_at graph) ns ≡ parents_at graph at) (introduced roots : Bool)
+      (is : introduced ≡ is_named Introduced events (id_at graph at)) (all : roots ≡ names_all Introduced events) where
+    pub starts_here : (introduced || (roots && eqb (length ns) 0)) ≡ true → IsStart graph events (id_at graph at)
     starts_here h =
-        elim (or_cases introduced (names_all Introduced events && eqb (length ns) 0) h) [
+        elim (or_cases introduced (roots && eqb (length ns) 0) h) [
           | inl one ↦ inl (sym is ∙ one)
-          | inr all ↦
-              let parts = and_parts (names_all Introduced events) (eqb (length ns) 0) all in
-              inr (parts.0, is_root graph at lt (sym named ∙ none ns parts.1))
+          | inr some ↦
+              let parts = and_parts roots (eqb (length ns) 0) some in
+              inr (sym all ∙ parts.0, is_root graph at lt (sym named ∙ none ns parts.1))
         ]
       where
         none : (xs : List ℕ) → eqb (length xs) 0 ≡ true → map (id_at graph) xs ≡ []
         none [] e = refl
         none (x ∷ xs) e = absurd (omega (arith, eqb-true (length (x ∷ xs)) 0 e))
 
-    pub starts_not : (introduced || (names_all Introduced events && eqb (length ns) 0)) ≡ false → IsStart graph events (id_at graph at) → ⊥
-    starts_not h (inl one) = true≢false (sym (first_true introduced (names_all Introduced events && eqb (length ns) 0) (is ∙ one)) ∙ h)
+    pub starts_not : (introduced || (roots && eqb (length ns) 0)) ≡ false → IsStart graph events (id_at graph at) → ⊥
+    starts_not h (inl one) = true≢false (sym (first_true introduced (roots && eqb (length ns) 0) (is ∙ one)) ∙ h)
       where
         first_true : (a b : Bool) → a ≡ true → (a || b) ≡ true
         first_true true b e = refl
         first_true false b e = absurd (false≢true e)
-    starts_not h (inr root) = true≢false (sym (second_true introduced (names_all Introduced events && eqb (length ns) 0) (and_from (names_all Introduced events) (eqb (length ns) 0) root.0 empty)) ∙ h)
+    starts_not h (inr root) = true≢false (sym (second_true introduced (roots && eqb (length ns) 0) (and_from roots (eqb (length ns) 0) (all ∙ root.0) empty)) ∙ h)
       where
         second_true : (a b : Bool) → b ≡ true → (a || b) ≡ true
         second_true true b e = refl

@@ -1,5 +1,5 @@
 ghost use Rattle.std.specs.Prelude.{◌≡◌, ◌==◌, ◌+◌, ◌<◌, ◌≤◌, ◌↔◌, ◌&&◌, ◌||◌, length, replicate, false, IsTrue, IfOk};
-ghost use Rattle.osv_prim.specs.Graphs.{id_at, is_named, IsReached};
+ghost use Rattle.osv_prim.specs.Graphs.{id_at, is_named, IsLegal, IsReached};
 ghost use Rattle.osv_prim.specs.declared.event.EventKind.TheVariants.{Introduced};
 ghost use Rattle.git_range.specs.Rows.{AreRows, is_closed};
 
@@ -23,6 +23,8 @@ pub(crate) fn is_reached<L: Ledger>(
     ensures steps { steps.new.graph ≤ steps.old.graph + length graph.now }
     ensures records { steps.new.record_count ≡ steps.old.record_count }
 {
+    // Its contract tells that the graph is legal.
+    let _ = graph.len();
     let count = number as usize + 1;
     let closed = closed_rows(alloc, graph, events, number)?;
     let starts = named_rows(alloc, graph, EventKind::Introduced, events, count)?;
@@ -50,6 +52,7 @@ fn finds_start<L: Ledger>(
     marks: &mut [bool],
     steps: &mut Steps<L>,
 ) -> bool
+    requires legal { IsLegal graph.now }
     requires there { number < length graph.now }
     requires closed { AreRows (number + 1) closed.now (is_closed graph.now events.now number) }
     requires starts { AreRows (number + 1) starts.now (λ n. is_named Introduced events.now (id_at graph.now n)) }
