@@ -1,10 +1,9 @@
 -- The rows that events name, one event after another.
-use Rattle.std.proofs.Common.{◌≡◌, ◌≢◌, ℕ, ◌+◌, ◌<◌, ◌≤◌, ◌⊎◌, inl, inr, ◌↔◌, Bool, true, false, not, ◌&&◌, ◌||◌, eqb, List, [], ◌∷◌, length, take, get_or, set, Option, Some, None, is_some, IsTrue, refl, sym, ap, subst, ◌∙◌, arith}
-use Rattle.std.specs.List.{list_any}
+use Rattle.std.proofs.Common.{◌≡◌, ◌≢◌, ℕ, ◌+◌, ◌<◌, inl, inr, Bool, true, false, not, ◌&&◌, ◌||◌, eqb, List, [], length, take, replicate, get_or, set, Option, Some, None, is_some, IsTrue, refl, sym, ap, ◌∙◌, arith}
 use Rattle.std.specs.Option.{option_map_or}
 use Rattle.std.specs.Str.{bytes_eq}
 use Rattle.std.proofs.lemmas.Bool.{cases_Bool, cases_eq, eq-eqb, ne_eqb, true≢false, false≢true}
-use Rattle.std.proofs.lemmas.List.{get_or-set_same, get_or-set_other, length-set}
+use Rattle.std.proofs.lemmas.List.{get_or-set_same, get_or-set_other, length-set, length-replicate, get_or-replicate}
 use Rattle.std.proofs.lemmas.List.Folds.{list_any_more, list_any_at}
 use Rattle.std.proofs.lemmas.Slice.Eq.{bytes_eq-Decides}
 use Rattle.osv_prim.specs.Oids.{oid_of}
@@ -23,10 +22,11 @@ names_none graph kind e other n lt =
     (λ h. absurd cc, λ h. absurd (true≢false (sym h ∙ ap (λ (b : Bool). b && option_map_or (bytes_eq (id_at graph n)) (oid_of e.value) false) other)))
 
 pub names_unread : (graph : List CommitRow) (kind : EventKind) (e : Event) → is_kind kind e.kind ≡ true → oid_of e.value ≡ None → IsNamedRow graph kind e None
-names_unread graph kind e same unread n lt =
-    (λ h. absurd cc,
-    λ h. absurd (true≢false (sym h ∙ ap (λ (b : Bool). b && option_map_or (bytes_eq (id_at graph n)) (oid_of e.value) false) same
-        ∙ ap (λ (o : Option (List ℕ)). option_map_or (bytes_eq (id_at graph n)) o false) unread)))
+names_unread graph kind e same unread n lt = (
+  λ h. absurd cc,
+  λ h. absurd (true≢false (sym h ∙ ap (λ (b : Bool). b && option_map_or (bytes_eq (id_at graph n)) (oid_of e.value) false) same
+      ∙ ap (λ (o : Option (List ℕ)). option_map_or (bytes_eq (id_at graph n)) o false) unread)),
+)
 
 -- where the row is looked up by the id that the event names
 pub names_row : (graph : List CommitRow) (kind : EventKind) (e : Event) (o : List ℕ) (row : Option ℕ) → is_kind kind e.kind ≡ true → oid_of e.value ≡ Some o
@@ -97,6 +97,17 @@ module _ (graph : List CommitRow) (kind : EventKind) (events : List Event) (i : 
             let elsewhere : row ≢ Some n = λ r. other (let both : Some m ≡ Some n = sym is ∙ r in cc) in
             get_or-set_other noted m n true false other ∙ noted_same n lt elsewhere h
       ]
+
+-- what is noted where nothing was before
+pub noted_fresh : (count : ℕ) (test : ℕ → Bool) (first noted : List Bool) → first ≡ replicate count false → length noted ≡ length first
+    → ((n : ℕ) → n < length first → get_or noted n false ≡ (get_or first n false || test n)) → AreRows count noted test
+noted_fresh count test first noted fresh size each =
+    let long : length first ≡ count = ap (λ (xs : List Bool). length xs) fresh ∙ length-replicate count false in
+    record {
+      size = size ∙ long;
+      each = λ n lt.
+          each n (omega arith) ∙ ap (λ (b : Bool). b || test n) (ap (λ (xs : List Bool). get_or xs n false) fresh ∙ get_or-replicate count n false false lt);
+    }
 
 -- ---- fixed commits, and last affected ones but one
 

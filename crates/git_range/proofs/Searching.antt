@@ -1,14 +1,14 @@
 -- Going down from a commit to where a range begins.
-use Rattle.std.proofs.Common.{◌≡◌, ◌≢◌, ℕ, suc, ◌+◌, ◌<◌, ◌≤◌, ◌⊎◌, inl, inr, Bool, true, false, not, ◌&&◌, ◌||◌, eqb, List, [], ◌∷◌, length, map, replicate, get_or, set, All, Contains, IsTrue, refl, sym, ap, subst, ◌∙◌, arith}
+use Rattle.std.proofs.Common.{◌≡◌, ℕ, ◌+◌, ◌<◌, ◌≤◌, inl, inr, Bool, true, false, not, ◌&&◌, ◌||◌, eqb, List, [], ◌∷◌, length, map, replicate, get_or, set, All, Contains, refl, sym, ap, subst, ◌∙◌, arith}
 use Rattle.std.proofs.lemmas.Bool.{cases_lt, cases_eq, and_parts, or_cases, and_from, eq-eqb, eqb-true, ne_eqb, true≢false, false≢true}
 use Rattle.std.proofs.lemmas.List.{length-map, length-set, length-replicate, get_or-replicate, get_or_past, get_or-set_same, get_or-set_other}
 use Rattle.std.proofs.lemmas.List.Elements.{All-cons, All-nil, All-head, All-tail}
-use Rattle.osv_prim.specs.Graphs.{ids, id_at, parents_at, IsLegal, IsParent, IsRoot, IsWalk, first_of, last_of, before_last, is_named, names_all, IsStart, IsReached}
+use Rattle.osv_prim.specs.Graphs.{ids, id_at, parents_at, IsLegal, IsParent, IsWalk, first_of, last_of, before_last, is_named, names_all, IsStart, IsReached}
 use Rattle.osv_prim.specs.declared.oid.CommitRow.{CommitRow}
 use Rattle.osv_prim.specs.declared.event.Event.{Event}
 use Rattle.osv_prim.specs.declared.event.EventKind.TheVariants.{Introduced, Fixed, LastAffected}
-use Rattle.git_range.specs.Rows.{AreRows, is_closed}
-use Rattle.git_range.proofs.Ids.{length-ids, has_row, row_of, related, one_row, root_parents, is_root, is_parent, has_parent, parent_number}
+use Rattle.git_range.specs.Rows.{is_closed}
+use Rattle.git_range.proofs.Ids.{has_row, related, one_row, root_parents, is_root, is_parent, has_parent, parent_number}
 use Rattle.git_range.proofs.Marking.{IsMarked, still_marked, now_marked, why_marked}
 
 -- a walk from a to c that meets no fixed commit, and a last affected one at most at its end
@@ -139,10 +139,10 @@ searching_start graph events end marks there unclosed fresh =
     let size : length marks ≡ end + 1 = ap (λ (xs : List Bool). length xs) fresh ∙ length-replicate (end + 1) false in
     searching_first graph events end (set marks end true) there unclosed (length-set marks end true ∙ size) (get_or-set_same marks end true false (omega arith))
     (λ n h.
-        elim (cases_eq n end) [
-          | inl same ↦ same
-          | inr other ↦ absurd (false≢true (sym (get_or-set_other marks end n true false other ∙ ap (λ (xs : List Bool). get_or xs n false) fresh ∙ none_of (end + 1) n) ∙ h))
-        ])
+    elim (cases_eq n end) [
+      | inl same ↦ same
+      | inr other ↦ absurd (false≢true (sym (get_or-set_other marks end n true false other ∙ ap (λ (xs : List Bool). get_or xs n false) fresh ∙ none_of (end + 1) n) ∙ h))
+    ])
 
 module _ (graph : List CommitRow) (legal : IsLegal graph) (events : List Event) (end : ℕ) (there : end < length graph) where
   -- a row that isn't marked, or that is closed, is passed over

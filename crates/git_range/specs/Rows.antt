@@ -1,5 +1,5 @@
 -- What is noted of rows, by their numbers (our own).
-use Rattle.std.specs.Prelude.{◌≡◌, ℕ, ◌<◌, ◌↔◌, Bool, true, false, not, ◌&&◌, ◌||◌, ◌==◌, List, length, Option, Some, IsTrue, slice_index_or}
+use Rattle.std.specs.Prelude.{◌≡◌, ℕ, ◌<◌, ◌↔◌, Bool, false, not, ◌&&◌, ◌||◌, ◌==◌, List, length, Option, Some, IsTrue, slice_index_or}
 use Rattle.osv_prim.specs.Graphs.{id_at, names, is_named}
 use Rattle.osv_prim.specs.declared.oid.CommitRow.{CommitRow}
 use Rattle.osv_prim.specs.declared.event.Event.{Event}

@@ -97,13 +97,7 @@ pub(crate) fn closed_rows(
     requires { number < length graph.now }
     ensures { IfOk result (λ v. AreRows (number + 1) v.items (is_closed graph.now events.now number)) }
 {
-    let mut noted = named_rows(
-        alloc,
-        graph,
-        EventKind::Fixed,
-        events,
-        number as usize + 1,
-    )?;
+    let mut noted = named_rows(alloc, graph, EventKind::Fixed, events, number as usize + 1)?;
     note_ended(graph, events, number, noted.as_mut_slice());
     Ok(noted)
 }
@@ -120,8 +114,8 @@ fn note_ended(graph: &Graph, events: &[Event], number: u32, noted: &mut [bool])
     noted[number] = fixed;
 }
 
-// Notes the commits of the first rows that an event of the kind names, beside those that are noted.
-fn note_named(graph: &Graph, kind: EventKind, events: &[Event], noted: &mut [bool])
+/// Notes the commits of the first rows that an event of the kind names, beside those that are noted.
+pub(crate) fn note_named(graph: &Graph, kind: EventKind, events: &[Event], noted: &mut [bool])
     requires { length noted.old ≤ length graph.now }
     ensures { (n : ℕ) → n < length noted.old → slice_index_or noted.new n false
         ≡ (slice_index_or noted.old n false || is_named kind events.now (id_at graph.now n)) }

@@ -1,4 +1,4 @@
-use Rattle.std.proofs.Common.{◌≡◌, ◌≢◌, ℕ, ◌+◌, ◌<◌, Bool, false, ◌||◌, List, length, take, get_or, Some, sym, subst, ◌∙◌, arith}
+use Rattle.std.proofs.Common.{◌≡◌, ◌≢◌, ◌+◌, ◌<◌, Bool, false, ◌||◌, List, length, take, get_or, Some, sym, subst, ◌∙◌, arith}
 use Rattle.osv_prim.specs.Graphs.{id_at, is_named}
 use Rattle.git_range.proofs.Naming.{noted_same, noted_set}
 use Rattle.git_range.proofs.events.note_named.Goals as goal
@@ -15,7 +15,7 @@ loop-event-preserved c n lt =
     let so_far = c.loop-event.invariant n before in
     let Goal : List Bool → Type 0 = λ xs. get_or xs n false ≡ (get_or first n false || is_named c.args.kind (take (i + 1) events) (id_at graph n)) in
     let same : c.row_named.result ≢ Some n → Goal c.loop-event.noted =
-        λ ne. noted_same graph c.args.kind events i c.event-item.result c.loop-event-test.true c.event-item.is c.row_named.result c.row_named.ensures first c.loop-event.noted n within ne so_far in
+    λ ne. noted_same graph c.args.kind events i c.event-item.result c.loop-event-test.true c.event-item.is c.row_named.result c.row_named.ensures first c.loop-event.noted n within ne so_far in
     elim c.match-row_named.branch [
       | in-Some+then-number-noted w ↦
           subst Goal (sym w.noted-is)

@@ -1,4 +1,4 @@
-use Rattle.std.proofs.Common.{◌≡◌, ℕ, ◌+◌, ◌-◌, ◌<◌, ◌≤◌, false, eqb, get_or, length, refl, sym, ap, subst, ◌∙◌, arith}
+use Rattle.std.proofs.Common.{◌≡◌, ℕ, ◌+◌, ◌-◌, ◌<◌, false, get_or, length, refl, sym, ap, subst, ◌∙◌, arith}
 use Rattle.std.proofs.lemmas.Bool.{false≢true, true≢false}
 use Rattle.osv_prim.specs.Counts.{Counts}
 use Rattle.osv_prim.specs.Graphs.{id_at}
@@ -7,9 +7,10 @@ use Rattle.git_range.proofs.reached.finds_start.Goals as goal
 use Rattle.git_range.proofs.reached.finds_start.Goals.{else-marks-at-via-then-marks-at+else-not-closed-at, else-marks-at-via-else-marks-at}
 
 pub returns-then-closed-number-clause-reached : goal.returns-then-closed-number-clause-reached
-returns-then-closed-number-clause-reached g c =
-    (λ h. absurd (false≢true h),
-    λ reached. absurd (closed_itself c.args.graph.now c.args.events.now c.args.number (sym (c.requires.closed.each c.args.number (omega arith)) ∙ c.if-closed-number.true) reached))
+returns-then-closed-number-clause-reached g c = (
+  λ h. absurd (false≢true h),
+  λ reached. absurd (closed_itself c.args.graph.now c.args.events.now c.args.number (sym (c.requires.closed.each c.args.number (omega arith)) ∙ c.if-closed-number.true) reached),
+)
 
 pub loop-at-init : goal.loop-at-init
 loop-at-init g c =
@@ -26,13 +27,14 @@ returns-then-is_start-clause-reached g c =
     let at = c.loop-at.at - 1 in
     let s = c.loop-at.invariant.search in
     let low : at < c.args.number + 1 = omega (arith, s.within, c.loop-at-test.true) in
-    let lt : at < length c.args.graph.now = omega (arith, low, c.requires.there) in
-    (λ h.
-        reached_by c.args.graph.now c.args.events.now (id_at c.args.graph.now at) (id_at c.args.graph.now c.args.number)
-        (s.sound at low c.if-marks-at.true (sym (c.requires.closed.each at low) ∙ c.if-not-closed-at.true))
-        (starts_here c.args.graph.now c.requires.legal c.args.events.now c.args.number c.requires.there at lt c.parents_at-parents.result.now c.parents_at-parents.ensures.parents
-        (get_or c.args.starts.now at false) c.names_all-from_roots.result (c.requires.starts.each at low) c.names_all-from_roots.ensures (sym c.is_start.ensures ∙ c.if-is_start.true)),
-    λ h. refl)
+    let lt : at < length c.args.graph.now = omega (arith, low, c.requires.there) in (
+      λ h.
+          reached_by c.args.graph.now c.args.events.now (id_at c.args.graph.now at) (id_at c.args.graph.now c.args.number)
+          (s.sound at low c.if-marks-at.true (sym (c.requires.closed.each at low) ∙ c.if-not-closed-at.true))
+          (starts_here c.args.graph.now c.requires.legal c.args.events.now c.args.number c.requires.there at lt c.parents_at-parents.result.now c.parents_at-parents.ensures.parents
+          (get_or c.args.starts.now at false) c.names_all-from_roots.result (c.requires.starts.each at low) c.names_all-from_roots.ensures (sym c.is_start.ensures ∙ c.if-is_start.true)),
+      λ h. refl,
+    )
 
 pub loop-at-preserved-then-not-closed-at : goal.loop-at-preserved-then-not-closed-at
 loop-at-preserved-then-not-closed-at g c =
@@ -61,10 +63,10 @@ loop-at-preserved g c =
       search =
           searching_over c.args.graph.now c.requires.legal c.args.events.now c.args.number c.requires.there at c.loop-at.marks s
           (λ mark free.
-              elim c.else-marks-at.branch [
-                | else-marks-at-via-then-marks-at+else-not-closed-at w ↦ true≢false (sym w.if-not-closed-at.false ∙ c.requires.closed.each at low ∙ free)
-                | else-marks-at-via-else-marks-at w ↦ true≢false (sym mark ∙ w.if-marks-at.false)
-              ]);
+          elim c.else-marks-at.branch [
+            | else-marks-at-via-then-marks-at+else-not-closed-at w ↦ true≢false (sym w.if-not-closed-at.false ∙ c.requires.closed.each at low ∙ free)
+            | else-marks-at-via-else-marks-at w ↦ true≢false (sym mark ∙ w.if-marks-at.false)
+          ]);
       steps = omega (arith, c.loop-at.invariant.steps);
       records = c.loop-at.invariant.records;
     }

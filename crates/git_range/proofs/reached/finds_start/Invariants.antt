@@ -7,7 +7,7 @@ invariant-loop-at g l =
     record {
       search : Searching l.graph l.events l.fn.number l.at l.marks;
       steps : l.steps.graph + l.at ≤ l.fn.steps.graph + length l.graph;
-      records : l.steps.record_count ≡ l.fn.steps.record_count
+      records : l.steps.record_count ≡ l.fn.steps.record_count;
     }
 
 abbrev pub decreases-loop-at : goal.decreases-loop-at
