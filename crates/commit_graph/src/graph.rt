@@ -77,6 +77,7 @@ impl Graph {
     pub fn number_of(&self, oid: &Oid) -> Option<u32>
         ensures number { result ≡ number_of self.now oid.now }
         ensures found { is_some result ≡ has self.now oid.now }
+        ensures legal { IsLegal self.now }
     {
         self.ids.get_index_of(oid).map(|number| number as u32)
     }

@@ -97,9 +97,13 @@ means_all e = (is_kind Introduced e.kind && bytes_eq e.value (codes "0")) || (is
 abbrev pub is_read : Event → Bool
 is_read e = means_all e || is_some (oid_of e.value)
 
+-- the event is of the kind, and names the commit
+abbrev pub names : EventKind → List ℕ → Event → Bool
+names kind c e = is_kind kind e.kind && option_map_or (bytes_eq c) (oid_of e.value) false
+
 -- some event of the kind names the commit
 abbrev pub is_named : EventKind → List Event → List ℕ → Bool
-is_named kind events c = list_any (λ e. is_kind kind e.kind && option_map_or (bytes_eq c) (oid_of e.value) false) events
+is_named kind events c = list_any (names kind c) events
 
 -- some event of the kind means every commit
 abbrev pub names_all : EventKind → List Event → Bool
@@ -110,10 +114,13 @@ has_limit events = list_any (λ e. is_kind Limit e.kind) events
 
 -- ---- affected commits
 
--- no limit is given, or one is `*`, or the commit is a proper ancestor of one
+-- a proper ancestor of a commit that a limit names
+abbrev pub IsBeforeLimit : List CommitRow → List Event → List ℕ → Type 0
+IsBeforeLimit graph events c = (limit : List ℕ) × IsTrue (is_named Limit events limit) × IsProperAncestor graph c limit
+
+-- no limit is given, or one is `*`, or the commit stands before one
 abbrev pub IsWithinLimits : List CommitRow → List Event → List ℕ → Type 0
-IsWithinLimits graph events c =
-    (has_limit events ≡ false) ⊎ IsTrue (names_all Limit events) ⊎ ((limit : List ℕ) × IsTrue (is_named Limit events limit) × IsProperAncestor graph c limit)
+IsWithinLimits graph events c = (has_limit events ≡ false) ⊎ IsTrue (names_all Limit events) ⊎ IsBeforeLimit graph events c
 
 -- a range begins at a commit that an introduced event names, and at each root where some introduced is `0`
 abbrev pub IsStart : List CommitRow → List Event → List ℕ → Type 0

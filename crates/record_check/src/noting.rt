@@ -1,10 +1,11 @@
 ghost use Rattle.std.specs.Prelude.{◌≡◌, ◌<◌, ◌^◌, ◌++◌, ◌&&◌, not, IfOk, OnOk, length, option_map};
 ghost use Rattle.std.specs.List.{list_any, list_all};
-ghost use Rattle.osv_prim.specs.Graphs.{is_kind, is_read};
+ghost use Rattle.osv_prim.specs.Graphs.{is_kind};
 ghost use Rattle.record_check.specs.Notices.{notices, noted, has_kind, order_in, has_no_order, has_unread, says_two_ends, lists_nothing, range_notices, ranges_notices, entry_notices};
 
 use crate::notice::{Notice, NoticeKind};
-use osv_prim::{Event, EventKind, Memory, Oid, PackageKey, RangeKind};
+use git_range::all_read;
+use osv_prim::{Event, EventKind, Memory, PackageKey, RangeKind};
 use osv_record::{Affected, Range, Record};
 use std::alloc::Global;
 use version_order::{Order, reads_all};
@@ -149,24 +150,5 @@ fn has_unread(alloc: Global, order: Option<Order>, range: &Range) -> Result<bool
     if let Some(order) = order {
         return Ok(!reads_all(alloc, order, range.events.as_slice())?);
     }
-    Ok(matches!(range.kind, RangeKind::Git) && !are_commits(range.events.as_slice()))
-}
-
-// Whether each value is `0` where it is introduced, `*` where it is a limit, or a commit's id.
-fn are_commits(events: &[Event]) -> bool
-    ensures { result ≡ list_all is_read events.now }
-{
-    events.iter().all(|event| is_read(event))
-}
-
-fn is_read(event: &Event) -> bool
-    ensures { result ≡ is_read event.now }
-{
-    let value = event.value.as_str();
-    let all = match event.kind {
-        EventKind::Introduced => value == "0",
-        EventKind::Limit => value == "*",
-        EventKind::Fixed | EventKind::LastAffected => false,
-    };
-    all || Oid::read(event.value.as_bytes()).is_ok()
+    Ok(matches!(range.kind, RangeKind::Git) && !all_read(range.events.as_slice()))
 }
