@@ -1,21 +1,20 @@
 -- Going from row to row finds the commits that walks lead to.
-use Rattle.std.proofs.Common.{◌≡◌, ℕ, zero, suc, ◌<◌, ◌≤◌, ◌⊎◌, ◌↔◌, inl, inr, Bool, true, false, not, ◌&&◌, ◌||◌, cond, eqb, List, [], ◌∷◌, ◌++◌, length, reverse, get_or, Option, Some, None, All, Contains, IsTrue, IfOk, Result, Ok, Err, refl, sym, ap, subst, ◌∙◌, arith}
-use Rattle.std.specs.Prelude.{Any}
+use Rattle.std.proofs.Common.{◌≡◌, ℕ, zero, suc, ◌<◌, ◌≤◌, ◌↔◌, inl, inr, Bool, true, false, not, ◌&&◌, ◌||◌, eqb, List, [], ◌∷◌, length, reverse, get_or, Option, Some, None, All, Contains, IsTrue, IfOk, Result, Ok, Err, refl, sym, ap, subst, ◌∙◌, arith}
 use Rattle.std.specs.List.{list_any, list_all}
 use Rattle.std.specs.Option.{option_map_or}
 use Rattle.std.specs.Str.{bytes_eq}
-use Rattle.std.proofs.lemmas.Bool.{cases_Bool, true≢false, false≢true, and_parts, and_from, or_cases, or_left, or_right, not-true, not_from_false, eqb-true, eq-eqb}
+use Rattle.std.proofs.lemmas.Bool.{false≢true, and_parts, and_from, or_cases, or_left, or_right, not-true, not_from_false, eqb-true, eq-eqb}
 use Rattle.std.proofs.lemmas.List.Elements.{All-head, All-tail, Contains-append_right, Contains-get_or}
 use Rattle.std.proofs.lemmas.List.Folds.{Any-from_list_any, list_any-from_Any}
 use Rattle.std.proofs.lemmas.Bool.Decides.{same_from_decides}
 use Rattle.std.proofs.lemmas.Slice.Eq.{bytes_eq-Decides}
 use Rattle.osv_prim.specs.Oids.{oid_of}
-use Rattle.osv_prim.specs.Graphs.{ids, id_at, parents_at, IsLegal, IsParent, IsWalk, first_of, last_of, before_last, IsProperAncestor, IsRoot, is_kind, is_read, names, is_named, names_all, has_limit, IsBeforeLimit, IsWithinLimits, IsStart, IsReached, IsAffected}
+use Rattle.osv_prim.specs.Graphs.{ids, id_at, IsLegal, IsParent, IsWalk, first_of, last_of, before_last, IsProperAncestor, is_kind, is_read, names, is_named, names_all, has_limit, IsBeforeLimit, IsWithinLimits, IsStart, IsReached, IsAffected}
 use Rattle.osv_prim.specs.declared.oid.CommitRow.{CommitRow}
 use Rattle.osv_prim.specs.declared.event.Event.{Event}
 use Rattle.osv_prim.specs.declared.event.EventKind.TheVariants.{Introduced, Fixed, LastAffected, Limit}
 use Rattle.git_range.specs.Affected.{is_start, reaches, leads, is_within_limits, is_affected}
-use Rattle.git_range.proofs.Ids.{row_of, has_row, related, one_row, root_parents, is_root, is_parent, some_row}
+use Rattle.git_range.proofs.Ids.{row_of, has_row, related, root_parents, is_root, is_parent, some_row}
 use Rattle.git_range.proofs.Newest.{row_id, row_parents, parent_row, row_says, its_row}
 use Rattle.git_range.proofs.Searching.{Leads, leads_itself, leads_before, reached_by}
 
@@ -40,15 +39,14 @@ module _ (graph : List CommitRow) (legal : IsLegal graph) where
     abbrev led : List ℕ → CommitRow → (List ℕ → Bool) → Bool
     led c r go = list_any (λ p. bytes_eq a p || go p) r.parents
 
+    led_same : (c : List ℕ) (r : CommitRow) (f g : List ℕ → Bool) → ((p : List ℕ) → Contains r.parents p → f p ≡ g p) → led c r f ≡ led c r g
+    led_same c r f g same = any_same (λ p. bytes_eq a p || f p) (λ p. bytes_eq a p || g p) r.parents (λ p there. ap (λ (b : Bool). bytes_eq a p || b) (same p there))
+
     led_says : (k : ℕ) (lt : k < length graph) → ahead (id_at graph k) ≡ led (id_at graph k) (some_row graph k lt) ahead
-    led_says =
-        row_says graph legal led (λ rows. leads rows a) (λ c. refl) (λ r older c. refl)
-        (λ c r f g same. any_same (λ p. bytes_eq a p || f p) (λ p. bytes_eq a p || g p) r.parents (λ p there. ap (λ (b : Bool). bytes_eq a p || b) (same p there)))
+    led_says = row_says graph legal led (λ rows. leads rows a) (λ c. refl) (λ r older c. refl) led_same
 
     led_row : (c : List ℕ) → ahead c ≡ true → (k : ℕ) × (k < length graph) × (id_at graph k ≡ c)
-    led_row =
-        its_row graph legal led (λ rows. leads rows a) (λ c. refl) (λ r older c. refl)
-        (λ c r f g same. any_same (λ p. bytes_eq a p || f p) (λ p. bytes_eq a p || g p) r.parents (λ p there. ap (λ (b : Bool). bytes_eq a p || b) (same p there)))
+    led_row = its_row graph legal led (λ rows. leads rows a) (λ c. refl) (λ r older c. refl) led_same
 
     -- from a commit that was found ahead to the end of a walk
     ancestor_from : (bound k : ℕ) → k < bound → k < length graph → ahead (id_at graph k) ≡ true → (rest : List (List ℕ)) → IsWalk graph (id_at graph k ∷ rest)
