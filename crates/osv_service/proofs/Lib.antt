@@ -2,3 +2,4 @@ pub mod Counted
 pub mod Cut
 pub mod Ending
 pub mod Reading
+pub mod Heard

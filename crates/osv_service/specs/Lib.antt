@@ -5,3 +5,4 @@ pub mod Words
 pub mod Asked
 pub mod Checked
 pub mod Run
+pub mod Said

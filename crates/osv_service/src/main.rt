@@ -8,6 +8,7 @@ mod command;
 mod input;
 mod lines;
 mod program;
+mod said;
 #[cfg(test)]
 mod tests;
 mod words;
