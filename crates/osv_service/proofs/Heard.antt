@@ -1,11 +1,11 @@
 -- What the words say, word by word.
-use Rattle.std.proofs.Common.{◌≡◌, ◌<◌, ◌≤◌, ℕ, Bool, true, false, not, ◌&&◌, List, [], ◌∷◌, ◌++◌, length, map, get_or, Option, Some, None, is_some, option_map, option_and_then, if◌then◌else◌, refl, sym, ap, ◌∙◌, inl, inr, arith, length-append, String, Global, IfSome}
+use Rattle.std.proofs.Common.{◌≡◌, ◌<◌, ◌≤◌, ℕ, Bool, true, false, not, ◌&&◌, List, [], ◌∷◌, length, map, get_or, Option, Some, None, is_some, option_map, option_and_then, if◌then◌else◌, refl, ap, ◌∙◌, inl, inr, arith, length-append, String, Global, IfSome}
 use Rattle.std.specs.Prelude.{string_bytes, nat_le}
 use Rattle.std.specs.List.{list_any, position_or_len, before_first}
 use Rattle.std.specs.Option.{option_map_or}
 use Rattle.std.proofs.lemmas.Bool.{cases_Bool}
 use Rattle.std.proofs.lemmas.Bool.Decides.{nat_tests}
-use Rattle.osv_service.specs.Said.{Said, Heard, Steps, and_words, ends_options, few, give, hear, heard, heard_all, heard_of, hear_free, hear_option, hear_value, is_commit, is_dashed, is_equals, is_input, said_after, value_in}
+use Rattle.osv_service.specs.Said.{Said, Heard, Steps, and_words, ends_options, few, give, hear, heard, heard_of, hear_free, hear_option, hear_value, is_commit, is_dashed, is_equals, is_input, said_after, value_in}
 use Rattle.osv_service.specs.declared.said.Hearing.{Hearing}
 
 pub no_equals : (word : List ℕ) → position_or_len is_equals word ≡ length word → list_any is_equals word ≡ false

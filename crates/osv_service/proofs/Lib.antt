@@ -1,5 +1,5 @@
-pub mod Counted
 pub mod Cut
 pub mod Ending
 pub mod Reading
 pub mod Heard
+pub mod Numerals

@@ -1,5 +1,5 @@
 -- Reading line after line.
-use Rattle.std.proofs.Common.{◌≡◌, ℕ, List, [], ◌∷◌, ◌++◌, Result, Ok, Err, refl, sym, ap, ◌∙◌}
+use Rattle.std.proofs.Common.{◌≡◌, ℕ, List, [], ◌∷◌, ◌++◌, Result, Ok, sym, ap, ◌∙◌}
 use Rattle.osv_prim.specs.Results.{each, onto, Fails}
 use Rattle.osv_prim.specs.declared.stop.Stop.{Stop}
 use Rattle.osv_prim.specs.declared.stop.Stop.TheVariants as stop

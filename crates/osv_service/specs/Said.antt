@@ -1,6 +1,6 @@
 -- What the words behind the command's say: the values of options, and the ordinary words. An option is written as in the
 -- GNU C library's manual, "Argument Syntax": `--name value` or `--name=value`, and `--` ends the options.
-use Rattle.std.specs.Prelude.{◌≡◌, ◌<◌, IfSome, ℕ, ◌&&◌, Bool, false, not, nat_le, ◌==◌, List, [], ◌∷◌, ◌++◌, length, map, Option, Some, None, is_some, option_map, option_and_then, if◌then◌else◌, codes}
+use Rattle.std.specs.Prelude.{◌≡◌, ◌<◌, IfSome, ℕ, ◌&&◌, Bool, false, not, nat_le, ◌==◌, List, [], ◌∷◌, ◌++◌, length, Option, Some, None, is_some, option_map, option_and_then, if◌then◌else◌, codes}
 use Rattle.std.specs.List.{list_any, before_first, after_first}
 use Rattle.std.specs.Option.{option_map_or}
 use Rattle.std.specs.Str.{bytes_eq}

@@ -7,6 +7,7 @@ mod check;
 mod command;
 mod input;
 mod lines;
+mod number;
 mod program;
 mod said;
 #[cfg(test)]

@@ -1,4 +1,4 @@
-use Rattle.std.proofs.Common.{rules, ◌≡◌, lit<, refl}
+use Rattle.std.proofs.Common.{lit<, refl}
 use Rattle.std.proofs.lemmas.Str.Pattern.{split_once_first}
 use Rattle.osv_service.proofs.Heard.{no_equals}
 use Rattle.osv_service.proofs.said.hear_option.Goals as goal

@@ -1,4 +1,4 @@
-use Rattle.std.proofs.Common.{◌≡◌, ◌∙◌, sym, ap, option_and_then}
+use Rattle.std.proofs.Common.{◌∙◌, sym, ap, option_and_then}
 use Rattle.osv_service.specs.Said.{few}
 use Rattle.osv_service.proofs.Heard.{stop}
 use Rattle.osv_service.proofs.said.said.Goals as goal
