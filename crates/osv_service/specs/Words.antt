@@ -4,8 +4,9 @@ use Rattle.std.specs.Option.{option_map_or}
 use Rattle.std.specs.Str.{bytes_eq}
 use Rattle.osv_prim.specs.declared.package.PackageKey.{PackageKey}
 use Rattle.osv_prim.specs.declared.subject.Subject.{Subject}
-use Rattle.osv_prim.specs.declared.subject.Subject.TheVariants.{Package}
+use Rattle.osv_prim.specs.declared.subject.Subject.TheVariants.{Package, Commit, CommitIn}
 use Rattle.osv_prim.specs.Digits.{all_digits, number}
+use Rattle.osv_prim.specs.Oids.{oid_of}
 use Rattle.osv_prim.specs.Packages.{normal_name}
 use Rattle.osv_service.specs.declared.command.Command.{Command}
 use Rattle.osv_service.specs.declared.command.Task.{Task}
@@ -42,9 +43,16 @@ package_asked (e ∷ n ∷ []) = option_map (λ p. Package p None) (package_of e
 package_asked (e ∷ n ∷ v ∷ []) = option_map (λ p. Package p (Some v)) (package_of e n)
 package_asked _ = None
 
--- what `ask` asks for
+-- [ECOSYSTEM NAME], of a commit
+abbrev pub commit_asked : List ℕ → List (List ℕ) → Option Subject
+commit_asked oid [] = Some (Commit oid)
+commit_asked oid (e ∷ n ∷ []) = option_map (λ p. CommitIn oid p) (package_of e n)
+commit_asked oid _ = None
+
+-- what `ask` asks for: the commit of `--commit`, or else a package
 abbrev pub subject_of : Said → Option Subject
-subject_of s = if is_some s.commit then None else package_asked s.ordinary
+subject_of s =
+    option_map_or (λ text. option_and_then (λ oid. commit_asked oid s.ordinary) (oid_of text)) s.commit (package_asked s.ordinary)
 
 -- neither a commit nor ordinary words
 abbrev pub is_bare : Said → Bool

@@ -1,11 +1,11 @@
 ghost use Rattle.std.specs.Prelude.{◌≡◌, ◌≤◌, map, option_map, IfOk, IfSome, IsErr, IsSome, string_bytes};
 ghost use Rattle.osv_service.specs.Said.{listed, said_of};
-ghost use Rattle.osv_service.specs.Words.{command, command_of, is_bare, is_full, limit_of, most_input, package_asked, package_of, subject_of, task_of};
+ghost use Rattle.osv_service.specs.Words.{command, command_of, commit_asked, is_bare, is_full, limit_of, most_input, package_asked, package_of, subject_of, task_of};
 
 use crate::command::{Command, Task};
 use crate::number::number_in;
 use crate::said::{Given, Ordinary, said};
-use osv_prim::{Memory, PackageKey, Subject, Text};
+use osv_prim::{Memory, Oid, PackageKey, Subject, Text};
 use std::alloc::Global;
 
 /// The most bytes of input.
@@ -80,7 +80,24 @@ fn subject_of(alloc: Global, given: Given<'_>) -> Result<Option<Subject>, Memory
 {
     match given.commit {
         None => package_asked(alloc, given.ordinary),
-        Some(_) => Ok(None),
+        Some(text) => match Oid::read(text.as_bytes()) {
+            Ok(oid) => commit_asked(alloc, oid, given.ordinary),
+            Err(_) => Ok(None),
+        },
+    }
+}
+
+fn commit_asked(alloc: Global, oid: Oid, ordinary: Ordinary<'_>) -> Result<Option<Subject>, Memory>
+    ensures value { IfOk result (λ s. s ≡ commit_asked oid (listed ordinary.entry)) }
+    ensures memory { IsErr result → IsSome (commit_asked oid (listed ordinary.entry)) }
+{
+    match ordinary {
+        Ordinary::Nothing => Ok(Some(Subject::Commit(oid))),
+        Ordinary::Two(ecosystem, name) => match package_of(alloc, ecosystem, name)? {
+            None => Ok(None),
+            Some(package) => Ok(Some(Subject::CommitIn(oid, package))),
+        },
+        Ordinary::One(_) | Ordinary::Three(_, _, _) => Ok(None),
     }
 }
 
