@@ -7,3 +7,4 @@ pub mod Commits
 pub mod Asked
 pub mod Checked
 pub mod Run
+pub mod Said

@@ -1,41 +1,72 @@
--- The words of the command line (our own).
-use Rattle.std.specs.Prelude.{ℕ, ◌&&◌, Bool, false, not, nat_lt, ◌==◌, List, [], ◌∷◌, length, Option, Some, None, if◌then◌else◌, codes}
+-- The commands that the words of the command line may be (our own).
+use Rattle.std.specs.Prelude.{ℕ, ◌&&◌, Bool, not, nat_lt, nat_le, ◌==◌, List, [], ◌∷◌, length, Option, Some, None, is_some, option_map, option_and_then, if◌then◌else◌, codes}
+use Rattle.std.specs.Option.{option_map_or}
 use Rattle.std.specs.Str.{bytes_eq}
-use Rattle.osv_prim.specs.declared.subject.Subject.TheVariants.{Package}
+use Rattle.osv_prim.specs.declared.package.PackageKey.{PackageKey}
+use Rattle.osv_prim.specs.declared.subject.Subject.{Subject}
+use Rattle.osv_prim.specs.declared.subject.Subject.TheVariants.{Package, Commit, CommitIn}
+use Rattle.osv_prim.specs.Digits.{all_digits, number}
+use Rattle.osv_prim.specs.Oids.{oid_of}
 use Rattle.osv_prim.specs.Packages.{normal_name}
 use Rattle.osv_service.specs.declared.command.Command.{Command}
 use Rattle.osv_service.specs.declared.command.Task.{Task}
 use Rattle.osv_service.specs.declared.command.Task.TheVariants.{Ask, Check}
+use Rattle.osv_service.specs.Said.{Said, said}
 
 -- the most bytes of input
 abbrev pub most_input : ℕ
 most_input = 1073741824
 
--- a word that begins with a dash and has more characters
-abbrev pub is_option : List ℕ → Bool
-is_option [] = false
-is_option (c ∷ []) = false
-is_option (c ∷ d ∷ ds) = c == 45
+-- 1 to 20 digits
+abbrev pub is_numeral : List ℕ → Bool
+is_numeral text = nat_lt 0 (length text) && nat_le (length text) 20 && all_digits text
+
+-- the number that a numeral spells, from the least to the most
+abbrev pub number_in : ℕ → ℕ → List ℕ → Option ℕ
+number_in least most text =
+    if is_numeral text && nat_le least (number text) && nat_le (number text) most then Some (number text) else None
+
+-- the most bytes of input: what `--input` says, or else the greatest
+abbrev pub limit_of : Option (List ℕ) → Option ℕ
+limit_of input = option_map_or (number_in 1 most_input) input (Some most_input)
 
 abbrev pub is_full : List ℕ → Bool
 is_full word = nat_lt 0 (length word)
 
-abbrev pub with_most : Task → Command
-with_most task = record { limit = most_input; task = task }
+-- the package that an ecosystem and a name are, where neither is empty
+abbrev pub package_of : List ℕ → List ℕ → Option PackageKey
+package_of e n = if is_full e && is_full n then Some (record { ecosystem = e; name = normal_name e n }) else None
 
--- `ask ECOSYSTEM NAME`, both not empty and no options
-abbrev pub are_asked : List ℕ → List ℕ → List ℕ → Bool
-are_asked ask ecosystem name =
-    bytes_eq ask (codes "ask") && is_full ecosystem && is_full name && not (is_option ecosystem) && not (is_option name)
+-- ECOSYSTEM NAME [VERSION]
+abbrev pub package_asked : List (List ℕ) → Option Subject
+package_asked (e ∷ n ∷ []) = option_map (λ p. Package p None) (package_of e n)
+package_asked (e ∷ n ∷ v ∷ []) = option_map (λ p. Package p (Some v)) (package_of e n)
+package_asked _ = None
 
-abbrev pub asking : List ℕ → List ℕ → Option (List ℕ) → Command
-asking e n v = with_most (Ask (Package (record { ecosystem = e; name = normal_name e n }) v))
+-- [ECOSYSTEM NAME], of a commit
+abbrev pub commit_asked : List ℕ → List (List ℕ) → Option Subject
+commit_asked oid [] = Some (Commit oid)
+commit_asked oid (e ∷ n ∷ []) = option_map (λ p. CommitIn oid p) (package_of e n)
+commit_asked oid _ = None
+
+-- what `ask` asks for: the commit of `--commit`, or else a package
+abbrev pub subject_of : Said → Option Subject
+subject_of s =
+    option_map_or (λ text. option_and_then (λ oid. commit_asked oid s.ordinary) (oid_of text)) s.commit (package_asked s.ordinary)
+
+-- neither a commit nor ordinary words
+abbrev pub is_bare : Said → Bool
+is_bare s = not (is_some s.commit) && (length s.ordinary == 0)
+
+abbrev pub task_of : List ℕ → Said → Option Task
+task_of first s =
+    if bytes_eq first (codes "ask") then option_map Ask (subject_of s)
+    else (if bytes_eq first (codes "check") && is_bare s then Some Check else None)
+
+abbrev pub command_of : List ℕ → Said → Option Command
+command_of first s = option_and_then (λ limit. option_map (λ task. record { limit = limit; task = task }) (task_of first s)) (limit_of s.input)
 
 -- the command that the words are, or none where they are outside the grammar
 abbrev pub command : List (List ℕ) → Option Command
 command [] = None
-command (a ∷ []) = if bytes_eq a (codes "check") then Some (with_most Check) else None
-command (a ∷ e ∷ []) = None
-command (a ∷ e ∷ n ∷ []) = if are_asked a e n then Some (asking e n None) else None
-command (a ∷ e ∷ n ∷ v ∷ []) = if are_asked a e n && not (is_option v) then Some (asking e n (Some v)) else None
-command (a ∷ e ∷ n ∷ v ∷ w ∷ ws) = None
+command (first ∷ behind) = option_and_then (command_of first) (said behind)

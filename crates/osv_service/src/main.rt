@@ -8,8 +8,10 @@ mod command;
 mod commits;
 mod input;
 mod lines;
+mod number;
 mod program;
 mod repo;
+mod said;
 #[cfg(test)]
 mod tests;
 mod words;
