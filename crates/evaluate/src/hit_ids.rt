@@ -42,11 +42,7 @@ impl HitIds {
         ensures err { OnErr result (self.new ≡ self.old) }
     {
         if is_hit_by(alloc, &record, subject)? {
-            let Record {
-                id,
-                affected: _,
-                text: _,
-            } = record;
+            let Record { id, .. } = record;
             self.ids.insert(id)?;
         } else {
             self.ids.remove(&record.id);

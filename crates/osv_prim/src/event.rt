@@ -1,7 +1,8 @@
 use crate::text::Text;
 
-/// What an event of a range says (OSV schema 1.6, "affected[].ranges[].events").
-#[derive(Clone, Copy, Debug, PartialEq, Eq)]
+/// What an event of a range says (OSV schema 1.6, "affected[].ranges[].events"). At one version events
+/// take effect in this order.
+#[derive(Clone, Copy, Debug, PartialEq, Eq, PartialOrd, Ord)]
 pub enum EventKind {
     /// The vulnerability is there from this version or commit on.
     Introduced,

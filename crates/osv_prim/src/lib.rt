@@ -1,6 +1,7 @@
 //! Ids, package keys, and the small types that contracts see as texts, bytes and lists.
 #![tactic(auto)]
 
+mod bound;
 mod bytes;
 mod digits;
 mod event;
@@ -11,10 +12,12 @@ mod oid;
 mod package;
 mod read_version;
 mod repo;
+mod steps;
 mod stop;
 mod subject;
 mod text;
 
+pub use bound::Bound;
 pub use bytes::Bytes;
 pub use digits::{Digits, digits_cmp, identifiers_cmp, split_digits};
 pub use event::{Event, EventKind, RangeKind};
@@ -22,9 +25,10 @@ pub use id::{Id, IdFault};
 pub use list::List;
 pub use memory::Memory;
 pub use oid::{CommitRow, NotAnId, Oid};
-pub use package::PackageKey;
+pub use package::{PackageKey, base_of};
 pub use read_version::ReadVersion;
 pub use repo::RepoKey;
+pub use steps::{Ledger, Steps, Unkept};
 pub use stop::Stop;
 pub use subject::Subject;
 pub use text::Text;

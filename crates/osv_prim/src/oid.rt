@@ -1,14 +1,17 @@
-ghost use Rattle.std.specs.Prelude.{◌≡◌, ◌↔◌, length, IsOk, Some, refl, nat_eq};
+ghost use Rattle.std.specs.Prelude.{◌≡◌, ◌↔◌, length, IsOk, Some, [], ◌∷◌, refl, nat_eq};
 ghost use Rattle.std.specs.Result.{result_ok};
 ghost use Rattle.std.specs.List.{AllPass};
 ghost use Rattle.std.specs.Ordering.{nat_cmp};
 ghost use Rattle.std.specs.Cmp.{partial_equiv_from_equiv};
 ghost use Rattle.std.specs.Cmp.Lexicographic.{slice_cmp, pointwise, nat_list_cmp_total, nat_list_eq_equiv, texts_ties, texts_po};
 ghost use Rattle.hex.specs.Hex.{is_hex_digit};
+ghost use Rattle.std.proofs.Common.{rules};
+ghost use Rattle.std.specs.Cmp.Rules.{hashing};
 ghost use Rattle.osv_prim.specs.Oids.{oid_of, text_of};
 
 use crate::list::List;
 use std::cmp::Ordering;
+use std::hash::{Hash, Hasher};
 use std::marker::Model;
 
 /// The text is not 40 hex digits.
@@ -89,6 +92,16 @@ impl Ord for Oid {
 
     fn cmp(&self, other: &Oid) -> Ordering {
         self.bytes.as_slice().cmp(other.bytes.as_slice())
+    }
+}
+
+impl Hash for Oid {
+    ghost hash_input = { λ o. o ∷ [] };
+
+    ghost respects_eq = { Prim.search (hashing, rules) };
+
+    fn hash<H: Hasher>(&self, state: &mut H) {
+        state.write(self.bytes.as_slice());
     }
 }
 

@@ -1,106 +1,107 @@
-ghost use Rattle.std.specs.Prelude.{◌≡◌, [], option_map};
+ghost use Rattle.std.specs.Prelude.{◌≡◌, option_map};
+ghost use Rattle.serde_json.specs.Find.{as_object};
 ghost use Rattle.osv_prim.specs.Results.{Gives, each, or_refuse};
 ghost use Rattle.json_view.specs.Json.{json};
 ghost use Rattle.json_view.specs.Views.{document_value, node_value, element_values};
-ghost use Rattle.osv_record.specs.Reading.{advisory, text_of, name_of, list_or_none, absent, id_of, package_of, entry_of, record_of};
+ghost use Rattle.std.specs.List.{list_any};
+ghost use Rattle.osv_record.specs.Advisories.{Extent, is_git};
+ghost use Rattle.osv_record.specs.Reading.{advisory, record_of, affected_of, entry_of, version_of, id_of, modified_of, time_from, withdrawn_of, is_built};
 
-use crate::fault::RecordFault;
+use crate::fault::{Member, RecordFault};
+use crate::members::{list_or_none, object_or, text_or};
+use crate::packages::package_of;
+use crate::range::Range;
+use crate::ranges::ranges_of;
 use crate::record::{Affected, Record};
 use json_view::{Document, Elements, JsonFault, Node, Room};
-use osv_prim::{Bytes, Id, IdFault, List, PackageKey, Stop, Text};
+use osv_prim::{Bytes, Id, IdFault, List, RangeKind, Stop, Text};
 use std::alloc::Global;
 
 const MOST_BYTES: usize = 16_777_216;
 
-fn text_of<'a>(node: Node<'_, 'a>) -> Result<&'a str, Stop<RecordFault>>
-    ensures { Gives (λ s. s.now) result (text_of (node_value node.entry)) }
-{
-    match node.as_str() {
-        Some(text) => Ok(text),
-        None => Err(Stop::Refused(RecordFault::NotBuilt)),
-    }
-}
-
-// A text that is there and is not empty.
-#[tactic(auto, unfolding(crate::specs::Reading::name_of))]
-fn name_of<'a>(found: Option<Node<'_, 'a>>) -> Result<&'a str, Stop<RecordFault>>
-    ensures { Gives (λ s. s.now) result (name_of (option_map node_value found.entry)) }
+#[tactic(auto, unfolding(crate::specs::Reading::id_of))]
+fn id_of(alloc: Global, found: Option<Node>) -> Result<Id, Stop<RecordFault>>
+    ensures { Gives (λ i. i) result (id_of (option_map node_value found.entry)) }
 {
     let Some(node) = found else {
-        return Err(Stop::Refused(RecordFault::NotBuilt));
+        return Err(Stop::Refused(RecordFault::NoId));
     };
-    let text = text_of(node)?;
-    if text.is_empty() {
-        return Err(Stop::Refused(RecordFault::NotBuilt));
-    }
-    Ok(text)
-}
-
-#[tactic(auto, unfolding(crate::specs::Reading::package_of))]
-fn package_of(alloc: Global, node: Node) -> Result<PackageKey, Stop<RecordFault>>
-    ensures { Gives (λ k. k) result (package_of (node_value node.entry)) }
-{
-    let ecosystem = name_of(node.member("ecosystem"))?;
-    let name = name_of(node.member("name"))?;
-    Ok(PackageKey::normal(alloc, ecosystem, name)?)
-}
-
-#[tactic(auto, unfolding(crate::specs::Reading::id_of))]
-fn id_of(alloc: Global, node: Node) -> Result<Id, Stop<RecordFault>>
-    ensures { Gives (λ i. i) result (id_of (node_value node.entry)) }
-{
-    let Some(found) = node.member("id") else {
-        return Err(Stop::Refused(RecordFault::NotBuilt));
-    };
-    match Id::read(alloc, text_of(found)?) {
+    match Id::read(alloc, text_or(node, RecordFault::BadId)?) {
         Ok(id) => Ok(id),
-        Err(IdFault::BadId) => Err(Stop::Refused(RecordFault::NotBuilt)),
+        Err(IdFault::BadId) => Err(Stop::Refused(RecordFault::BadId)),
         Err(IdFault::Memory) => Err(Stop::Memory),
     }
 }
 
-fn absent(found: Option<Node>) -> Result<(), Stop<RecordFault>>
-    ensures { Gives (λ _. []) result (absent (option_map node_value found.entry)) }
-{
-    if found.is_some() {
-        return Err(Stop::Refused(RecordFault::NotBuilt));
-    }
-    Ok(())
+// A time, and its text.
+#[derive(Clone, Copy)]
+struct Time<'a> {
+    nanos: i128,
+    text: &'a str,
 }
 
-fn list_or_none<'t, 'a>(found: Option<Node<'t, 'a>>) -> Result<Elements<'t, 'a>, Stop<RecordFault>>
-    ensures { Gives element_values result (list_or_none (option_map node_value found.entry)) }
+#[tactic(auto, unfolding(crate::specs::Reading::time_from))]
+fn time_from<'a>(node: Node<'_, 'a>, fault: RecordFault) -> Result<Time<'a>, Stop<RecordFault>>
+    ensures { Gives (λ t. (t.nanos, t.text.now)) result (time_from fault (node_value node.entry)) }
+{
+    let text = text_or(node, fault)?;
+    match osv_time::read(text) {
+        Some(nanos) => Ok(Time { nanos, text }),
+        None => Err(Stop::Refused(fault)),
+    }
+}
+
+#[tactic(auto, unfolding(crate::specs::Reading::modified_of))]
+fn modified_of<'a>(found: Option<Node<'_, 'a>>) -> Result<Time<'a>, Stop<RecordFault>>
+    ensures { Gives (λ t. (t.nanos, t.text.now)) result (modified_of (option_map node_value found.entry)) }
+{
+    match found {
+        Some(node) => time_from(node, RecordFault::BadModified),
+        None => Err(Stop::Refused(RecordFault::NoModified)),
+    }
+}
+
+#[tactic(auto, unfolding(crate::specs::Reading::withdrawn_of))]
+fn withdrawn_of(found: Option<Node>) -> Result<bool, Stop<RecordFault>>
+    ensures { Gives (λ b. b) result (withdrawn_of (option_map node_value found.entry)) }
 {
     let Some(node) = found else {
-        return Ok(Elements::none());
+        return Ok(false);
     };
-    match node.elements() {
-        Some(elements) => Ok(elements),
-        None => Err(Stop::Refused(RecordFault::NotBuilt)),
-    }
+    time_from(node, RecordFault::WrongType(Member::Withdrawn))?;
+    Ok(true)
 }
 
-fn texts_of(alloc: Global, mut elements: Elements) -> Result<List<Text>, Stop<RecordFault>>
-    ensures { Gives (λ l. l) result (each text_of (element_values elements.entry)) }
+#[tactic(auto, unfolding(crate::specs::Reading::version_of))]
+fn version_of(alloc: Global, node: Node) -> Result<Text, Stop<RecordFault>>
+    ensures { Gives (λ t. t) result (version_of (node_value node.entry)) }
 {
-    let mut texts = List::with_capacity(alloc, elements.len())?;
+    let text = text_or(node, RecordFault::WrongType(Member::Version))?;
+    Ok(Text::copy_of(alloc, text)?)
+}
+
+fn versions_of(alloc: Global, mut elements: Elements) -> Result<List<Text>, Stop<RecordFault>>
+    ensures { Gives (λ l. l) result (each version_of (element_values elements.entry)) }
+{
+    let mut versions = List::with_capacity(alloc, elements.len())?;
     while let Some(node) = elements.next() {
-        texts.push(Text::copy_of(alloc, text_of(node)?)?)?;
+        versions.push(version_of(alloc, node)?)?;
     }
-    Ok(texts)
+    Ok(versions)
 }
 
 #[tactic(auto, unfolding(crate::specs::Reading::entry_of))]
 fn entry_of(alloc: Global, node: Node) -> Result<Affected, Stop<RecordFault>>
     ensures { Gives (λ a. a) result (entry_of (node_value node.entry)) }
 {
-    let Some(found) = node.member("package") else {
-        return Err(Stop::Refused(RecordFault::NotBuilt));
-    };
-    let package = package_of(alloc, found)?;
-    absent(node.member("ranges"))?;
-    let versions = texts_of(alloc, list_or_none(node.member("versions"))?)?;
-    Ok(Affected::new(Some(package), versions)?)
+    object_or(node, RecordFault::WrongType(Member::Entry))?;
+    let package = package_of(alloc, node.member("package"))?;
+    let ranges = ranges_of(alloc, list_or_none(node.member("ranges"), Member::Ranges)?)?;
+    let versions = versions_of(
+        alloc,
+        list_or_none(node.member("versions"), Member::Versions)?,
+    )?;
+    Ok(Affected::new(package, ranges, versions)?)
 }
 
 fn entries_of(alloc: Global, mut elements: Elements) -> Result<List<Affected>, Stop<RecordFault>>
@@ -113,14 +114,25 @@ fn entries_of(alloc: Global, mut elements: Elements) -> Result<List<Affected>, S
     Ok(entries)
 }
 
+#[tactic(auto, unfolding(crate::specs::Reading::affected_of))]
+fn affected_of(alloc: Global, found: Option<Node>) -> Result<List<Affected>, Stop<RecordFault>>
+    ensures { Gives (λ l. l) result (affected_of (option_map node_value found.entry)) }
+{
+    entries_of(alloc, list_or_none(found, Member::Affected)?)
+}
+
 #[tactic(auto, unfolding(crate::specs::Reading::record_of))]
 fn record_of(alloc: Global, bytes: &[u8], node: Node) -> Result<Record, Stop<RecordFault>>
     ensures { Gives (λ r. r) result (record_of bytes.now (node_value node.entry)) }
 {
-    let id = id_of(alloc, node)?;
-    absent(node.member("withdrawn"))?;
-    let affected = entries_of(alloc, list_or_none(node.member("affected"))?)?;
-    Ok(Record::new(id, affected, Bytes::copy_of(alloc, bytes)?)?)
+    object_or(node, RecordFault::NotObject)?;
+    let id = id_of(alloc, node.member("id"))?;
+    let modified = modified_of(node.member("modified"))?;
+    let withdrawn = withdrawn_of(node.member("withdrawn"))?;
+    let affected = affected_of(alloc, node.member("affected"))?;
+    let modified_text = Text::copy_of(alloc, modified.text)?;
+    let text = Bytes::copy_of(alloc, bytes)?;
+    Ok(Record::new(id, modified.nanos, modified_text, withdrawn, affected, text)?)
 }
 
 fn document_of<'a>(
@@ -137,6 +149,20 @@ fn document_of<'a>(
     }
 }
 
+fn is_built(entries: &[Affected]) -> bool
+    ensures { result ≡ is_built entries.now }
+{
+    entries.iter().all(|entry| entry.package.is_some() && !has_git(entry.ranges.as_slice()))
+}
+
+fn has_git(ranges: &[Range]) -> bool
+    ensures { result ≡ list_any (λ (r : Extent). is_git r.kind) ranges.now }
+{
+    ranges
+        .iter()
+        .any(|range| matches!(range.kind, RangeKind::Git))
+}
+
 #[tactic(auto, unfolding(crate::specs::Reading::advisory))]
 pub(crate) fn record_from(
     alloc: Global,
@@ -149,5 +175,9 @@ pub(crate) fn record_from(
         return Err(Stop::Refused(RecordFault::TooLarge));
     }
     let document = document_of(alloc, bytes, room)?;
-    record_of(alloc, bytes, document.root())
+    let record = record_of(alloc, bytes, document.root())?;
+    if !is_built(record.affected.as_slice()) {
+        return Err(Stop::Refused(RecordFault::NotBuilt));
+    }
+    Ok(record)
 }

@@ -1,19 +1,23 @@
-ghost use Rattle.std.specs.Prelude.{◌≡◌, ◌≢◌, Ok, Err, IfOk, IfErr};
+ghost use Rattle.std.specs.Prelude.{◌≡◌, ◌≢◌, ◌<◌, ◌≤◌, ◌+◌, ◌^◌, Ok, Err, IfOk, IfErr, IfSome, IfNone, map, length};
+ghost use Rattle.osv_record.specs.Advisories.{git_ranges, git_ranges_of, is_git};
 
 use crate::fault::RecordFault;
+use crate::range::Range;
 use crate::reading::record_from;
 use json_view::Room;
-use osv_prim::{Bytes, Id, List, Memory, PackageKey, Stop, Text};
+use osv_prim::{Bytes, Id, List, Memory, PackageKey, RangeKind, Stop, Text};
 use std::alloc::Global;
 use std::marker::Model;
 
 // Places in a list are numbers of 32 bits.
-const PLACES: usize = 1 << 32;
+pub(crate) const PLACES: usize = 1 << 32;
 
-/// A package, and the versions of it that an advisory lists as affected. Fewer than 2^32 are listed.
+/// A package, and the ranges and versions of it that an advisory names as affected. It has fewer
+/// than 2^32 of each.
 #[derive(Debug, Drop)]
 pub struct Affected {
     pub package: Option<PackageKey>,
+    pub ranges: List<Range>,
     pub versions: List<Text>,
 }
 
@@ -23,39 +27,54 @@ impl Model for Affected {
 
     ghost Value = { Entry };
 
-    ghost view = { λ a. record { «package» = a.«package»; versions = a.versions } };
+    ghost view = { λ a. record { «package» = a.«package»; ranges = a.ranges; versions = a.versions } };
 
-    ghost invariant = { λ a. length a.versions < 2 ^ 32 };
+    ghost invariant = { λ a. (length a.ranges < 2 ^ 32) × (length a.versions < 2 ^ 32) };
 }
 
 impl Affected {
-    pub fn new(package: Option<PackageKey>, versions: List<Text>) -> Result<Affected, Memory>
-        ensures { IfOk result (λ a. a ≡ record { «package» = «package»; versions = versions }) }
+    pub(crate) fn new(
+        package: Option<PackageKey>,
+        ranges: List<Range>,
+        versions: List<Text>,
+    ) -> Result<Affected, Memory>
+        ensures { IfOk result (λ a. a ≡ record { «package» = «package»; ranges = ranges; versions = versions }) }
     {
-        if versions.len() >= PLACES {
+        if ranges.len() >= PLACES || versions.len() >= PLACES {
             return Err(Memory);
         }
-        Ok(Affected { package, versions })
+        Ok(Affected {
+            package,
+            ranges,
+            versions,
+        })
     }
 }
 
-/// An advisory, and the bytes that it was read from. It has fewer than 2^32 entries.
+/// An advisory, and the bytes that it was read from. It has fewer than 2^32 entries, and over all
+/// its entries fewer than 2^32 GIT ranges.
 #[derive(Debug, Drop)]
 pub struct Record {
     pub id: Id,
+    /// Nanoseconds since 1970.
+    pub modified: i128,
+    /// The same time as it was written.
+    pub modified_text: Text,
+    /// Whether it says when it was withdrawn.
+    pub withdrawn: bool,
     pub affected: List<Affected>,
     pub text: Bytes,
 }
 
 impl Model for Record {
     ghost use Rattle.std.specs.Prelude.{◌<◌, ◌^◌, length};
-    ghost use Rattle.osv_record.specs.Advisories.{Advisory};
+    ghost use Rattle.osv_record.specs.Advisories.{Advisory, git_ranges};
 
     ghost Value = { Advisory };
 
-    ghost view = { λ r. record { id = r.id; affected = r.affected; text = r.text } };
+    ghost view = { λ r. record { id = r.id; modified = r.modified; modified_text = r.modified_text; withdrawn = r.withdrawn; affected = r.affected; text = r.text } };
 
-    ghost invariant = { λ r. length r.affected < 2 ^ 32 };
+    ghost invariant = { λ r. (length r.affected < 2 ^ 32) × (git_ranges r.affected < 2 ^ 32) };
 }
 
 impl Record {
@@ -82,12 +101,59 @@ impl Record {
         }
     }
 
-    pub(crate) fn new(id: Id, affected: List<Affected>, text: Bytes) -> Result<Record, Memory>
-        ensures { IfOk result (λ r. r ≡ record { id = id; affected = affected; text = text }) }
+    pub(crate) fn new(
+        id: Id,
+        modified: i128,
+        modified_text: Text,
+        withdrawn: bool,
+        affected: List<Affected>,
+        text: Bytes,
+    ) -> Result<Record, Memory>
+        ensures { IfOk result (λ r. r ≡ record { id = id; modified = modified; modified_text = modified_text; withdrawn = withdrawn; affected = affected; text = text }) }
     {
-        if affected.len() >= PLACES {
-            return Err(Memory);
+        match git_ranges_in(affected.as_slice()) {
+            Some(count) if count < PLACES as u64 && affected.len() < PLACES => Ok(Record {
+                id,
+                modified,
+                modified_text,
+                withdrawn,
+                affected,
+                text,
+            }),
+            _ => Err(Memory),
         }
-        Ok(Record { id, affected, text })
     }
+
+    /// How many GIT ranges its entries have.
+    pub fn git_ranges(&self) -> u32
+        ensures { result ≡ git_ranges self.now.affected }
+    {
+        match git_ranges_in(self.affected.as_slice()) {
+            Some(count) => count as u32,
+            None => u32::MAX,
+        }
+    }
+}
+
+fn count_git(ranges: &[Range]) -> usize
+    ensures { result ≡ git_ranges_of ranges.now }
+{
+    ranges
+        .iter()
+        .filter(|range| matches!(range.kind, RangeKind::Git))
+        .count()
+}
+
+// None where they are more than a number of 64 bits can count.
+pub(crate) fn git_ranges_in(entries: &[Affected]) -> Option<u64>
+    ensures some { IfSome result (λ n. n ≡ git_ranges entries.now) }
+    ensures none { IfNone result (2 ^ 64 ≤ git_ranges entries.now) }
+{
+    let mut count = 0u64;
+    let mut rest = entries;
+    while let [entry, after @ ..] = rest {
+        count = count.checked_add(count_git(entry.ranges.as_slice()) as u64)?;
+        rest = after;
+    }
+    Some(count)
 }

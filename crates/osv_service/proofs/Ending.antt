@@ -1,15 +1,16 @@
 -- How a run ends.
-use Rattle.std.proofs.Common.{◌≡◌, ◌≢◌, ◌⊎◌, ℕ, List, Option, Some, None, refl, sym, ap, subst, ◌∙◌, arith, inl, inr}
+use Rattle.std.proofs.Common.{◌≡◌, ◌≢◌, ◌⊎◌, ℕ, ◌<◌, ◌≤◌, nat_lt, true, false, List, length, Option, Some, None, refl, sym, ap, subst, ◌∙◌, arith, inl, inr}
 use Rattle.std.specs.Prelude.{IfSome}
 use Rattle.std.specs.Io.KnownBytes.{Appends, IsAtEnd}
 use Rattle.std.proofs.lemmas.Bool.{cases_lt}
+use Rattle.std.proofs.lemmas.Bool.Decides.{nat_tests}
 use Rattle.edge_io.specs.Causes.{Rose}
 use Rattle.osv_service.specs.declared.answer.Answer.{Answer}
+use Rattle.osv_service.specs.declared.command.Command.{Command}
 use Rattle.osv_service.specs.declared.input.Input.{Input}
 use Rattle.osv_service.specs.declared.input.Input.TheVariants.{Whole, TooLarge}
-use Rattle.osv_service.specs.Asked.{most_input}
 use Rattle.osv_service.specs.Input.{IsInput}
-use Rattle.osv_service.specs.Run.{usage, WritesFront, Declines, Answers, AnswersTo}
+use Rattle.osv_service.specs.Run.{usage, answer_of, done, too_large, WritesFront, Declines, Answers, AnswersTo}
 
 four_or_not : (n : ℕ) → (n ≡ 4) ⊎ (n ≢ 4)
 four_or_not n =
@@ -18,12 +19,18 @@ four_or_not n =
       | inr le ↦ elim (cases_lt 4 n) [ inl lt ↦ inr (λ e. omega arith) | inr ge ↦ inl (omega arith) ]
     ]
 
+within : (c : Command) (xs : List ℕ) → length xs ≤ c.limit → done c.task xs ≡ answer_of c xs
+within c xs le = let e : nat_lt c.limit (length xs) ≡ false = grind (arith, nat_tests) in rw e refl
+
+beyond : (c : Command) (xs : List ℕ) → c.limit < length xs → too_large c.limit ≡ answer_of c xs
+beyond c xs lt = let e : nat_lt c.limit (length xs) ≡ true = grind (arith, nat_tests) in rw e refl
+
 -- what is answered is the answer to all that the source had left
-is_answer : (answer : List ℕ → Answer) (input : Input) (a : Answer) (old new : Option (List ℕ)) → IsInput most_input old new input → AnswersTo answer input a → IfSome old (λ xs. a ≡ answer xs)
-is_answer answer (Whole bytes) a None new i p = tt
-is_answer answer (Whole bytes) a (Some xs) new i p = subst (λ (b : List ℕ). a ≡ answer b) i.0 p
-is_answer answer TooLarge a None new i p = tt
-is_answer answer TooLarge a (Some xs) new i p = p.1 xs i
+is_answer : (c : Command) (input : Input) (a : Answer) (old new : Option (List ℕ)) → IsInput c.limit old new input → AnswersTo c input a → IfSome old (λ xs. a ≡ answer_of c xs)
+is_answer c (Whole bytes) a None new i p = tt
+is_answer c (Whole bytes) a (Some xs) new i p = subst (λ (b : List ℕ). a ≡ answer_of c b) i.0 (p ∙ within c bytes.items i.2)
+is_answer c TooLarge a None new i p = tt
+is_answer c TooLarge a (Some xs) new i p = p ∙ beyond c xs i
 
 known_of : (answer : List ℕ → Answer) (a : Answer) (old held_old held_new : Option (List ℕ)) (status : ℕ) → IfSome old (λ xs. a ≡ answer xs)
     → status ≡ a.status → Appends held_old held_new a.output → IfSome old (λ xs. (status ≡ (answer xs).status) × Appends held_old held_new (answer xs).output)
@@ -52,24 +59,24 @@ neither status known other same (inl z) e (inr o) = let ne : status ≢ 4 = λ f
 neither status known other same (inr z) e (inl o) = let ne : status ≢ 4 = λ f. omega arith in omega (arith, same ne)
 neither status known other same (inr z) e (inr o) = let ne : status ≢ 4 = λ f. omega arith in omega (arith, same ne)
 
-ended : (answer : List ℕ → Answer) (input : Input) (a : Answer) (old new : Option (List ℕ)) → IsInput most_input old new input → AnswersTo answer input a → a.status ≡ 0 → IsAtEnd new
-ended answer (Whole bytes) a old new i p e = i.1
-ended answer TooLarge a old new i p e = absurd (omega (arith, p.0))
+ended : (c : Command) (input : Input) (a : Answer) (old new : Option (List ℕ)) → IsInput c.limit old new input → AnswersTo c input a → a.status ≡ 0 → IsAtEnd new
+ended c (Whole bytes) a old new i p e = i.1
+ended c TooLarge a old new i p e = let five : a.status ≡ 5 = ap (λ (b : Answer). b.status) p in absurd (omega (arith, five, e))
 
-pub answers_by : (answer : List ℕ → Answer) (input : Input) (a : Answer) (status : ℕ) (old new held_old held_new : Option (List ℕ)) (sb sn kb kn : ℕ)
-    → IsInput most_input old new input → AnswersTo answer input a → (a.status ≡ 0) ⊎ (a.status ≡ 5)
+pub answers_by : (c : Command) (input : Input) (a : Answer) (status : ℕ) (old new held_old held_new : Option (List ℕ)) (sb sn kb kn : ℕ)
+    → IsInput c.limit old new input → AnswersTo c input a → (a.status ≡ 0) ⊎ (a.status ≡ 5)
     → (status ≢ 4 → Appends held_old held_new a.output) → (status ≢ 4 → status ≡ a.status) → WritesFront held_old held_new a.output → (status ≡ 4 → Rose kb kn)
-    → Answers answer status old new held_old held_new sb sn kb kn
-answers_by answer input a status old new held_old held_new sb sn kb kn i p known whole same front fault =
-    let is = is_answer answer input a old new i p in
+    → Answers (answer_of c) status old new held_old held_new sb sn kb kn
+answers_by c input a status old new held_old held_new sb sn kb kn i p known whole same front fault =
+    let is = is_answer c input a old new i p in
     record {
       answers = one_of status a.status same known;
-      whole = λ h. known_of answer a old held_old held_new status is (same (not_four status h)) (whole (not_four status h));
-      end = λ z. ended answer input a old new i p (sym (same (not_four status (inl z))) ∙ z);
+      whole = λ h. known_of (answer_of c) a old held_old held_new status is (same (not_four status h)) (whole (not_four status h));
+      end = λ z. ended c input a old new i p (sym (same (not_four status (inl z))) ∙ z);
       source_fault = λ e. absurd (neither status a.status 3 same known e (inl refl));
       nothing = λ e. absurd (neither status a.status 3 same known e (inl refl));
       sink_fault = fault;
-      front = λ e. front_of answer a old held_old held_new is front;
+      front = λ e. front_of (answer_of c) a old held_old held_new is front;
       no_memory = λ e. absurd (neither status a.status 6 same known e (inr refl));
     }
 

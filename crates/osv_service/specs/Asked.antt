@@ -13,9 +13,6 @@ use Rattle.osv_service.specs.Lines.{numbered}
 use Rattle.osv_service.specs.declared.answer.Answer.{Answer}
 use Rattle.osv_service.specs.declared.ask.LineFault.{LineFault}
 
-abbrev pub most_input : ℕ
-most_input = 1073741824
-
 -- a refusal of the line of this number
 abbrev pub at_line : ℕ → Result Advisory RecordFault → Result Advisory LineFault
 at_line n (Ok r) = Ok r
@@ -39,16 +36,14 @@ line_of id = id ++ 10 ∷ []
 abbrev pub refused_line : LineFault → List ℕ
 refused_line e = codes "refused line " ++ (decimal e.number ++ (codes " " ++ (decimal (code_of e.fault) ++ (codes " " ++ (name_of e.fault ++ codes "\n")))))
 
-abbrev pub refused_input : List ℕ
-refused_input = codes "refused input larger than 1073741824\n"
-
 -- the ids, each with a line end, or the line of refusal
 abbrev pub answer : Result (List (List ℕ)) LineFault → Answer
 answer (Ok ids) = record { status = 0; output = flat_map line_of ids }
 answer (Err e) = record { status = 5; output = refused_line e }
 
+-- what is written to an input within the limit
 unfoldable pub asked : Subject → List ℕ → Answer
-asked subject input = if nat_lt most_input (length input) then record { status = 5; output = refused_input } else answer (ids_hit subject (imports input))
+asked subject input = answer (ids_hit subject (imports input))
 
 -- the line was read, and its advisory is one more import
 abbrev pub TakesLine : Subject → ℕ × List ℕ → List (List ℕ) → List (List ℕ) → Type 0

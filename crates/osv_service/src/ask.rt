@@ -3,7 +3,8 @@ ghost use Rattle.std.specs.List.{flat_map};
 ghost use Rattle.std.specs.Fmt.{decimal};
 ghost use Rattle.osv_prim.specs.Results.{Gives, Fails};
 ghost use Rattle.osv_service.specs.Cursor.{line_pair};
-ghost use Rattle.osv_service.specs.Asked.{imports, read_line, ids_hit, line_of, refused_line, refused_input, asked, most_input, TakesLine};
+ghost use Rattle.osv_service.specs.Asked.{imports, read_line, ids_hit, line_of, refused_line, asked, TakesLine};
+ghost use Rattle.osv_service.specs.Words.{most_input};
 
 use crate::answer::Answer;
 use crate::lines::{Lines, NumberedLine};
@@ -106,24 +107,4 @@ pub fn asked(alloc: Global, subject: &Subject, input: &[u8]) -> Result<Answer, M
             output: Bytes::from_vec(refused_line(alloc, refused)?.into_bytes()),
         }),
     }
-}
-
-/// What `ask` answers to an input of too many bytes.
-#[tactic(auto, unfolding(crate::specs::Asked::asked))]
-pub fn too_large(alloc: Global, subject: &Subject) -> Result<Answer, Memory>
-    ensures answer { IfOk result (λ a. (input : List ℕ) → most_input < length input → a ≡ asked subject.now input) }
-    ensures refused { IfOk result (λ a. a.status ≡ 5) }
-{
-    let _ = subject;
-    Ok(Answer {
-        status: 5,
-        output: too_large_text(alloc)?,
-    })
-}
-
-fn too_large_text(alloc: Global) -> Result<Bytes, Memory>
-    ensures { IfOk result (λ b. b ≡ refused_input) }
-{
-    let text = String::from_str(alloc, "refused input larger than 1073741824\n")?;
-    Ok(Bytes::from_vec(text.into_bytes()))
 }

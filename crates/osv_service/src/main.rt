@@ -3,6 +3,7 @@
 
 mod answer;
 mod ask;
+mod check;
 mod command;
 mod input;
 mod lines;

@@ -1,19 +1,19 @@
-ghost use Rattle.std.specs.Prelude.{◌≡◌, ◌≢◌, ◌⊎◌, None, Some, map, IfOk, string_bytes};
+ghost use Rattle.std.specs.Prelude.{◌≡◌, ◌≢◌, ◌⊎◌, ◌≤◌, ◌++◌, None, Some, map, length, IfOk, string_bytes, codes};
+ghost use Rattle.std.specs.Fmt.{decimal};
 ghost use Rattle.std.specs.Io.KnownBytes.{Appends};
 ghost use Rattle.edge_io.specs.Causes.{Rose};
-ghost use Rattle.osv_service.specs.Words.{command};
-ghost use Rattle.osv_service.specs.Run.{usage, answer_of, WritesFront, Declines, Answers, FitsInput, AnswersTo};
+ghost use Rattle.osv_service.specs.Words.{command, most_input};
+ghost use Rattle.osv_service.specs.Run.{usage, done, too_large, answer_of, WritesFront, Declines, Answers, IsWithin, AnswersTo};
 
 use crate::answer::Answer;
-use crate::ask::{asked, too_large};
-use crate::command::Command;
+use crate::ask::asked;
+use crate::check::checked;
+use crate::command::{Command, Task};
 use crate::input::{Input, ReadStop, read_all};
 use crate::words::command;
 use edge_io::{Sink, Source, write_whole};
-use osv_prim::Memory;
-use std::alloc::Global;
-
-const MOST_INPUT: usize = 1_073_741_824;
+use osv_prim::{Bytes, Memory};
+use std::alloc::{AllocError, Global};
 
 pub(crate) const USAGE: &str =
     "usage: osv_service ask [--input N] ECOSYSTEM NAME [VERSION]\n       osv_service ask [--input N] --commit OID [ECOSYSTEM NAME]\n       osv_service check [--input N]\n       osv_service replay [SETTINGS]\n       osv_service drill SEED SIZE\n       osv_service serve [SETTINGS] [--lanes N] [--helpers N] ADDRESS\n";
@@ -65,15 +65,42 @@ fn write_answer<K: Sink>(sink: &mut K, answer: &Answer) -> u8
     write_out(sink, answer.output.as_slice(), answer.status)
 }
 
-fn answer_to(alloc: Global, command: &Command, input: &Input) -> Result<Answer, Memory>
-    requires { FitsInput input.now }
-    ensures answer { IfOk result (AnswersTo (answer_of command.now) input.now) }
+fn done(alloc: Global, task: &Task, input: &[u8]) -> Result<Answer, Memory>
+    requires { length input.now ≤ most_input }
+    ensures answer { IfOk result (λ a. a ≡ done task.now input.now) }
     ensures known { IfOk result (λ a. (a.status ≡ 0) ⊎ (a.status ≡ 5)) }
 {
-    let Command::Ask(subject) = command;
+    match task {
+        Task::Ask(subject) => asked(alloc, subject, input),
+        Task::Check => checked(alloc, input),
+    }
+}
+
+fn too_large(alloc: Global, limit: u64) -> Result<Answer, Memory>
+    ensures answer { IfOk result (λ a. a ≡ too_large limit) }
+    ensures known { IfOk result (λ a. a.status ≡ 5) }
+{
+    Ok(Answer {
+        status: 5,
+        output: Bytes::from_vec(too_large_text(alloc, limit)?.into_bytes()),
+    })
+}
+
+fn too_large_text(alloc: Global, limit: u64) -> Result<String, AllocError>
+    ensures { IfOk result (λ t. string_bytes t ≡ codes "refused input larger than " ++ (decimal limit ++ codes "\n")) }
+{
+    format!(in alloc; "refused input larger than {limit}\n")
+}
+
+fn answer_to(alloc: Global, command: &Command, input: &Input) -> Result<Answer, Memory>
+    requires limit { command.now.limit ≤ most_input }
+    requires within { IsWithin command.now.limit input.now }
+    ensures answer { IfOk result (AnswersTo command.now input.now) }
+    ensures known { IfOk result (λ a. (a.status ≡ 0) ⊎ (a.status ≡ 5)) }
+{
     match input {
-        Input::Whole(bytes) => asked(alloc, subject, bytes.as_slice()),
-        Input::TooLarge => too_large(alloc, subject),
+        Input::Whole(bytes) => done(alloc, &command.task, bytes.as_slice()),
+        Input::TooLarge => too_large(alloc, command.limit),
     }
 }
 
@@ -83,10 +110,11 @@ fn answered<S: Source, K: Sink>(
     source: &mut S,
     sink: &mut K,
 ) -> u8
+    requires { command.now.limit ≤ most_input }
     ensures { Answers (answer_of command.now) result (S.left source.old) (S.left source.new) (K.held sink.old) (K.held sink.new)
         (S.faults source.old) (S.faults source.new) (K.faults sink.old) (K.faults sink.new) }
 {
-    let input = match read_all(alloc, source, MOST_INPUT) {
+    let input = match read_all(alloc, source, command.limit as usize) {
         Ok(input) => input,
         Err(ReadStop::Source) => return 3,
         Err(ReadStop::Memory) => return 6,

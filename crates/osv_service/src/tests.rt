@@ -16,15 +16,15 @@ const ROW: &str = concat!(
 );
 
 const TWO: &str = concat!(
-    r#"{"id":"X-2","affected":[{"package":{"ecosystem":"npm","name":"p"},"versions":["1.0.0"]}]}"#,
+    r#"{"id":"X-2","modified":"2024-01-01T00:00:00Z","affected":[{"package":{"ecosystem":"npm","name":"p"},"versions":["1.0.0"]}]}"#,
     "\n\n",
-    r#"{"id":"X-1","affected":[{"package":{"ecosystem":"npm","name":"p"},"versions":["1.0.0"]}]}"#,
+    r#"{"id":"X-1","modified":"2024-01-01T00:00:00Z","affected":[{"package":{"ecosystem":"npm","name":"p"},"versions":["1.0.0"]}]}"#,
 );
 
 const OVER: &str = concat!(
-    r#"{"id":"X-1","affected":[{"package":{"ecosystem":"npm","name":"p"},"versions":["1.0.0"]}]}"#,
+    r#"{"id":"X-1","modified":"2024-01-01T00:00:00Z","affected":[{"package":{"ecosystem":"npm","name":"p"},"versions":["1.0.0"]}]}"#,
     "\n",
-    r#"{"id":"X-1","affected":[{"package":{"ecosystem":"npm","name":"p"},"versions":["2.0.0"]}]}"#,
+    r#"{"id":"X-1","modified":"2024-01-01T00:00:00Z","affected":[{"package":{"ecosystem":"npm","name":"p"},"versions":["2.0.0"]}]}"#,
     "\n",
 );
 
@@ -56,86 +56,118 @@ fn run_over(
     Ok((status, sink.bytes() == wanted))
 }
 
+const RANGED: &str = concat!(
+    "\n",
+    r#"{"id":"X-6","modified":"2024-01-01T00:00:00Z","affected":[{"package":{"ecosystem":"npm","name":"p"},"ranges":[{"type":"SEMVER","events":[{"introduced":"0"},{"fixed":"1.0.0"},{"last_affected":"0.9.0"}]}]}]}"#,
+    "\n",
+    r#"{"id":"X-6","modified":"2024-01-01T00:00:00Z","affected":[{"package":{"ecosystem":"npm","name":"p"},"ranges":[{"type":"SEMVER","events":[{"introduced":"1.0.0"},{"fixed":"2.0.0"}]}]}]}"#,
+);
+
+const CHECKED: &str = concat!(
+    "\n",
+    r#"{"id":"X-6","modified":"2024-01-01T00:00:00Z","affected":[{"package":{"ecosystem":"npm","name":"p"},"ranges":[{"type":"SEMVER","events":[{"introduced":"0"},{"fixed":"1.0.0"},{"last_affected":"0.9.0"}]}]}]}"#,
+    "\n{}\n",
+    r#"{"id":"X-1","modified":"2024-01-01T00:00:00Z"}"#,
+);
+
 // What a run is given, and what it has to end with.
 struct Run {
-    words: [&'static str; 4],
+    words: &'static [&'static str],
     input: &'static str,
     status: u8,
     output: &'static str,
 }
 
 const SPELLED: &str =
-    r#"{"id":"X-1","affected":[{"package":{"ecosystem":"PyPI:x","name":"My__.Pkg"},"versions":["1.0"]}]}"#;
+    r#"{"id":"X-1","modified":"2024-01-01T00:00:00Z","affected":[{"package":{"ecosystem":"PyPI:x","name":"My__.Pkg"},"versions":["1.0"]}]}"#;
 
 const RELEASE: &str =
-    r#"{"id":"X-1","affected":[{"package":{"ecosystem":"Debian:12","name":"a"},"versions":[""]}]}"#;
+    r#"{"id":"X-1","modified":"2024-01-01T00:00:00Z","affected":[{"package":{"ecosystem":"Debian:12","name":"a"},"versions":[""]}]}"#;
 
-const RUNS: [Run; 11] = [
+const RUNS: [Run; 14] = [
     Run {
-        words: ASK,
+        words: &ASK,
         input: ROW,
         status: 0,
         output: "X-1\nX-2\n",
     },
     Run {
-        words: ASK,
+        words: &ASK,
         input: TWO,
         status: 0,
         output: "X-1\nX-2\n",
     },
     Run {
-        words: ASK,
+        words: &ASK,
         input: OVER,
         status: 0,
         output: "",
     },
     Run {
-        words: ASK,
+        words: &ASK,
         input: "",
         status: 0,
         output: "",
     },
     Run {
-        words: ["ask", "PyPI", "MY-pkg", "1.0"],
+        words: &["ask", "PyPI", "MY-pkg", "1.0"],
         input: SPELLED,
         status: 0,
         output: "X-1\n",
     },
     Run {
-        words: ["ask", "PyPI:y", "my-pkg", "1.0"],
+        words: &["ask", "PyPI:y", "my-pkg", "1.0"],
         input: SPELLED,
         status: 0,
         output: "",
     },
     Run {
-        words: ["ask", "Debian", "a", ""],
+        words: &["ask", "Debian", "a", ""],
         input: RELEASE,
         status: 0,
         output: "X-1\n",
     },
     Run {
-        words: ["ask", "Debian:11", "a", ""],
+        words: &["ask", "Debian:11", "a", ""],
         input: RELEASE,
         status: 0,
         output: "",
     },
     Run {
-        words: ["ask", "npm", "p", "-1"],
+        words: &["ask", "npm", "p"],
+        input: TWO,
+        status: 0,
+        output: "X-1\nX-2\n",
+    },
+    Run {
+        words: &["ask", "npm", "p", "1.1.0"],
+        input: RANGED,
+        status: 0,
+        output: "X-6\n",
+    },
+    Run {
+        words: &["check"],
+        input: CHECKED,
+        status: 5,
+        output: "2 ok X-6\n2 notice 1 FixedAndLast entry 0 range 0\n3 refused 3 NoId\n4 ok X-1\n",
+    },
+    Run {
+        words: &["ask", "npm", "p", "-1"],
         input: TWO,
         status: 2,
         output: crate::program::USAGE,
     },
     Run {
-        words: ASK,
+        words: &ASK,
         input: "\n\n{",
         status: 5,
         output: "refused line 3 1 NotJson\n",
     },
     Run {
-        words: ASK,
+        words: &ASK,
         input: "\n[]",
         status: 5,
-        output: "refused line 2 16 NotBuilt\n",
+        output: "refused line 2 2 NotObject\n",
     },
 ];
 
@@ -146,7 +178,7 @@ fn runs_end_with_their_status_and_output(rt: HostRuntime) -> Result<(), Fail> {
         for run in &RUNS {
             let end = run_over(
                 &rt,
-                &run.words,
+                run.words,
                 run.input,
                 (None, None),
                 most,
@@ -169,8 +201,9 @@ fn runs_end_with_their_status_and_output(rt: HostRuntime) -> Result<(), Fail> {
 
 #[test]
 fn a_read_that_fails_after_any_number_of_bytes_ends_with_3(rt: HostRuntime) -> Result<(), Fail> {
-    for call in 0..=TWO.len() as u64 {
-        let end = run_over(&rt, &ASK, TWO, (Some(call), None), 1, b"")?;
+    let input = "{\"id\":\"X-1\",\"modified\":\"2024-01-01T00:00:00Z\"}\n";
+    for call in 0..=input.len() as u64 {
+        let end = run_over(&rt, &ASK, input, (Some(call), None), 1, b"")?;
         assert_eq!(rt; end, (3, true), "after {call}");
     }
     Ok(())

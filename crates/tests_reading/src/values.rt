@@ -1,6 +1,6 @@
 use evaluate::{HitIds, hits, version_hit};
 use osv_prim::{Id, IdFault, Memory, PackageKey, Subject, Text};
-use osv_record::{Record, RecordFault};
+use osv_record::{EventKind, Range, RangeKind, Record, RecordFault};
 use std::alloc::{AllocError, Global};
 use std::sync::Arc;
 
@@ -41,7 +41,11 @@ pub fn matched(alloc: Global, text: &str) -> Result<String, AllocError> {
 fn parts(alloc: Global, record: &Record) -> Result<String, AllocError> {
     let id = record.id.as_str();
     let bytes = record.text.len();
-    let mut text = format!(in alloc; "{id} {bytes}")?;
+    let modified = record.modified;
+    let written = record.modified_text.as_str();
+    let withdrawn = if record.withdrawn { " withdrawn" } else { "" };
+    let ranges = record.git_ranges();
+    let mut text = format!(in alloc; "{id} {bytes} {modified} {written}{withdrawn} {ranges}")?;
     for entry in record.affected.as_slice() {
         text.push(' ')?;
         if let Some(package) = &entry.package {
@@ -51,11 +55,36 @@ fn parts(alloc: Global, record: &Record) -> Result<String, AllocError> {
             text.push('/')?;
             text.push_str(version.as_str())?;
         }
+        for range in entry.ranges.as_slice() {
+            add_range(&mut text, range)?;
+        }
     }
     Ok(text)
 }
 
-/// The id, the number of bytes, and the packages and versions of an advisory, or its refusal.
+fn add_range(text: &mut String, range: &Range) -> Result<(), AllocError> {
+    text.push_str(match range.kind {
+        RangeKind::SemVer => " SEMVER",
+        RangeKind::Ecosystem => " ECOSYSTEM",
+        RangeKind::Git => " GIT",
+    })?;
+    if let Some(repo) = &range.repo {
+        text.push('@')?;
+        text.push_str(repo.as_str())?;
+    }
+    for event in range.events.as_slice() {
+        text.push_str(match event.kind {
+            EventKind::Introduced => " introduced=",
+            EventKind::Fixed => " fixed=",
+            EventKind::LastAffected => " last_affected=",
+            EventKind::Limit => " limit=",
+        })?;
+        text.push_str(event.value.as_str())?;
+    }
+    Ok(())
+}
+
+/// What an advisory was read as, or its refusal.
 pub fn record(alloc: Global, text: &str) -> Result<String, AllocError> {
     match Record::read(alloc, text.as_bytes()) {
         Ok(record) => parts(alloc, &record),

@@ -1,11 +1,11 @@
 use Rattle.std.proofs.Common.{◌≡◌, length}
 use Rattle.osv_prim.specs.Results.{each, onto}
 use Rattle.json_view.specs.Views.{element_values}
-use Rattle.osv_record.specs.Reading.{text_of}
-use Rattle.osv_record.proofs.reading.texts_of.Given as goal
+use Rattle.osv_record.specs.Reading.{event_of}
+use Rattle.osv_record.proofs.ranges.each_event.Given as goal
 
 abbrev pub invariant-loop-node : goal.invariant-loop-node
-invariant-loop-node l = onto l.texts (each text_of (element_values l.elements)) ≡ each text_of (element_values l.initial.elements)
+invariant-loop-node l = onto l.events (each event_of (element_values l.elements)) ≡ each event_of (element_values l.initial.elements)
 
 abbrev pub decreases-loop-node : goal.decreases-loop-node
 decreases-loop-node l = length (element_values l.elements)

@@ -1,0 +1,4 @@
+pub mod Cuts
+pub mod Faulty
+pub mod Growth
+pub mod Numbers

@@ -1,0 +1,136 @@
+ghost use Rattle.std.specs.Prelude.{◌≡◌, ◌≢◌, ◌+◌, ◌<◌, ◌≤◌, not, true, length, map, All, Some, None, IsTrue, IfOk, OnOk, IfErr};
+ghost use Rattle.std.specs.List.{list_all};
+ghost use Rattle.osv_prim.specs.Graphs.{has, id_at, with_row, joined, IsLegal};
+ghost use Rattle.commit_graph.specs.Faults.{fault_of, IsSound, IsFirstFault};
+
+use crate::fault::GraphFault;
+use crate::graph::Graph;
+use osv_prim::{CommitRow, Ledger, List, Memory, Oid, Steps};
+use std::alloc::Global;
+
+impl Graph {
+    /// The graph with rows joined: its own rows, and then each row whose commit isn't there yet. A row
+    /// whose commit is there with the same parents in the same order is passed over. The first row that
+    /// is faulty refuses them all. The graph itself stays as it is. It counts at most one graph step a row.
+    pub fn extend<L: Ledger>(
+        &self,
+        alloc: Global,
+        rows: &[CommitRow],
+        most: u32,
+        steps: &mut Steps<L>,
+    ) -> Result<Graph, GraphFault>
+        ensures joined { IfOk result (λ g. g ≡ joined self.now rows.now) }
+        ensures sound { OnOk result (IsSound self.now most rows.now) }
+        ensures fault { IfErr result (λ e. e ≢ GraphFault.Memory → IsFirstFault self.now most rows.now e) }
+        ensures legal { IfOk result IsLegal }
+        ensures steps { steps.new.graph ≤ steps.old.graph + length rows.now }
+        ensures records { steps.new.record_count ≡ steps.old.record_count }
+    {
+        let mut graph = self.copy(alloc, rows.len())?;
+        let mut numbers = Vec::new(alloc);
+        for (place, row) in rows.iter().enumerate() {
+            graph = joined_by(alloc, graph, row, place as u64, most, &mut numbers, steps)?;
+        }
+        let _ = graph.len();
+        Ok(graph)
+    }
+
+    // The same graph, with room for more rows.
+    fn copy(&self, alloc: Global, room: usize) -> Result<Graph, Memory>
+        ensures { IfOk result (λ g. g ≡ self.now) }
+    {
+        let rows = self.rows();
+        let mut graph = Graph::with_capacity(alloc, rows.len().saturating_add(room))?;
+        for (number, row) in rows.iter().enumerate() {
+            graph = graph.with_row(copy_of(alloc, row)?, self.numbers_at(number))?;
+        }
+        Ok(graph)
+    }
+
+    // The numbers of commits, in order, or false where one isn't there.
+    fn find_all(&self, oids: &[Oid], numbers: &mut Vec<u32>) -> Result<bool, Memory>
+        ensures all { IfOk result (λ all. all ≡ list_all (has self.now) oids.now) }
+        ensures named { IfOk result (λ all. IsTrue all → map (id_at self.now) numbers.new.items ≡ oids.now) }
+        ensures below { IfOk result (λ all. IsTrue all → All (λ n. n < length self.now) numbers.new.items) }
+    {
+        numbers.clear();
+        for oid in oids {
+            match self.number_of(oid) {
+                Some(number) => numbers.push(number)?,
+                None => return Ok(false),
+            }
+        }
+        Ok(true)
+    }
+}
+
+fn copy_of(alloc: Global, row: &CommitRow) -> Result<CommitRow, Memory>
+    ensures { IfOk result (λ r. r ≡ row.now) }
+{
+    let parents = Vec::from_slice(alloc, row.parents.as_slice())?;
+    Ok(CommitRow {
+        oid: row.oid,
+        parents: List::from_vec(parents),
+    })
+}
+
+// The graph and a row, unless its commit is there already. `numbers` is room to work in.
+fn joined_by<L: Ledger>(
+    alloc: Global,
+    graph: Graph,
+    row: &CommitRow,
+    place: u64,
+    most: u32,
+    numbers: &mut Vec<u32>,
+    steps: &mut Steps<L>,
+) -> Result<Graph, GraphFault>
+    ensures joined { IfOk result (λ g. g ≡ with_row graph row.now) }
+    ensures sound { OnOk result (fault_of graph most place row.now ≡ None) }
+    ensures fault { IfErr result (λ e. e ≢ GraphFault.Memory → fault_of graph most place row.now ≡ Some e) }
+    ensures steps { steps.new.graph ≤ steps.old.graph + 1 }
+    ensures records { steps.new.record_count ≡ steps.old.record_count }
+{
+    if is_new(&graph, row, place, most, numbers, steps)? {
+        let row = copy_of(alloc, row)?;
+        Ok(graph.with_row(row, numbers.as_slice())?)
+    } else {
+        Ok(graph)
+    }
+}
+
+// Whether the row's commit isn't there yet. Then `numbers` are those of its parents.
+fn is_new<L: Ledger>(
+    graph: &Graph,
+    row: &CommitRow,
+    place: u64,
+    most: u32,
+    numbers: &mut Vec<u32>,
+    steps: &mut Steps<L>,
+) -> Result<bool, GraphFault>
+    ensures new { IfOk result (λ new. new ≡ not (has graph.now row.now.oid)) }
+    ensures named { IfOk result (λ new. IsTrue new → map (id_at graph.now) numbers.new.items ≡ row.now.parents) }
+    ensures below { IfOk result (λ new. IsTrue new → All (λ n. n < length graph.now) numbers.new.items) }
+    ensures room { IfOk result (λ new. IsTrue new → length graph.now < most) }
+    ensures sound { OnOk result (fault_of graph.now most place row.now ≡ None) }
+    ensures fault { IfErr result (λ e. e ≢ GraphFault.Memory → fault_of graph.now most place row.now ≡ Some e) }
+    ensures steps { steps.new.graph ≤ steps.old.graph + 1 }
+    ensures records { steps.new.record_count ≡ steps.old.record_count }
+{
+    let parents = row.parents.as_slice();
+    if let Some(number) = graph.number_of(&row.oid) {
+        if graph.row_at(number, steps).parents.as_slice() == parents {
+            return Ok(false);
+        }
+        return Err(GraphFault::ParentsDiffer { row: place });
+    }
+    if parents.contains(&row.oid) {
+        return Err(GraphFault::SelfParent { row: place });
+    }
+    if !graph.find_all(parents, numbers)? {
+        return Err(GraphFault::UnknownParent { row: place });
+    }
+    if graph.len() >= most {
+        return Err(GraphFault::TooMany { row: place });
+    }
+    Ok(true)
+}

@@ -1,0 +1,5 @@
+pub mod Descending
+pub mod Ids
+pub mod Marking
+pub mod Naming
+pub mod Searching

@@ -1,0 +1,304 @@
+-- Going down from a commit to where a range begins.
+use Rattle.std.proofs.Common.{◌≡◌, ℕ, ◌+◌, ◌<◌, ◌≤◌, inl, inr, Bool, true, false, not, ◌&&◌, ◌||◌, eqb, List, [], ◌∷◌, length, map, replicate, get_or, set, All, Contains, refl, sym, ap, subst, ◌∙◌, arith}
+use Rattle.std.proofs.lemmas.Bool.{cases_lt, cases_eq, and_parts, or_cases, and_from, eq-eqb, eqb-true, ne_eqb, true≢false, false≢true}
+use Rattle.std.proofs.lemmas.List.{length-map, length-set, length-replicate, get_or-replicate, get_or_past, get_or-set_same, get_or-set_other}
+use Rattle.std.proofs.lemmas.List.Elements.{All-cons, All-nil, All-head, All-tail}
+use Rattle.osv_prim.specs.Graphs.{ids, id_at, parents_at, IsLegal, IsParent, IsWalk, first_of, last_of, before_last, is_named, names_all, IsStart, IsReached}
+use Rattle.osv_prim.specs.declared.oid.CommitRow.{CommitRow}
+use Rattle.osv_prim.specs.declared.event.Event.{Event}
+use Rattle.osv_prim.specs.declared.event.EventKind.TheVariants.{Introduced, Fixed, LastAffected}
+use Rattle.git_range.specs.Rows.{is_closed}
+use Rattle.git_range.proofs.Ids.{has_row, related, one_row, root_parents, is_root, is_parent, has_parent, parent_number}
+use Rattle.git_range.proofs.Marking.{IsMarked, still_marked, now_marked, why_marked}
+
+-- a walk from a to c that meets no fixed commit, and a last affected one at most at its end
+pub record Leads (graph : List CommitRow) (events : List Event) (a c : List ℕ) : Type 0 where
+  pub walk : List (List ℕ)
+  pub is_walk : IsWalk graph walk
+  pub begins : first_of walk ≡ a
+  pub ends : last_of walk ≡ c
+  pub unfixed : All (λ x. is_named Fixed events x ≡ false) walk
+  pub unended : All (λ x. is_named LastAffected events x ≡ false) (before_last walk)
+
+leads_itself : (graph : List CommitRow) (events : List Event) (c : List ℕ) → Contains (ids graph) c → is_named Fixed events c ≡ false → Leads graph events c c
+leads_itself graph events c there unfixed =
+    record {
+      walk = c ∷ [];
+      is_walk = there;
+      begins = refl;
+      ends = refl;
+      unfixed = All-cons (λ x. is_named Fixed events x ≡ false) c [] unfixed (All-nil (λ x. is_named Fixed events x ≡ false));
+      unended = All-nil (λ x. is_named LastAffected events x ≡ false);
+    }
+
+leads_before : (graph : List CommitRow) (events : List Event) (p a c : List ℕ) → IsParent graph p a → is_named Fixed events p ≡ false → is_named LastAffected events p ≡ false
+    → Leads graph events a c → Leads graph events p c
+leads_before graph events p a c parent unfixed unended lead = by lead.walk lead.is_walk lead.begins lead.ends lead.unfixed lead.unended
+  where
+    by : (walk : List (List ℕ)) → IsWalk graph walk → first_of walk ≡ a → last_of walk ≡ c → All (λ x. is_named Fixed events x ≡ false) walk
+        → All (λ x. is_named LastAffected events x ≡ false) (before_last walk) → Leads graph events p c
+    by [] w b e u d = absurd w
+    by (x ∷ rest) w b e u d =
+        record {
+          walk = p ∷ x ∷ rest;
+          is_walk = (subst (IsParent graph p) (sym b) parent, w);
+          begins = refl;
+          ends = e;
+          unfixed = All-cons (λ y. is_named Fixed events y ≡ false) p (x ∷ rest) unfixed u;
+          unended = All-cons (λ y. is_named LastAffected events y ≡ false) p (before_last (x ∷ rest)) unended d;
+        }
+
+pub reached_by : (graph : List CommitRow) (events : List Event) (a c : List ℕ) → Leads graph events a c → IsStart graph events a → IsReached graph events c
+reached_by graph events a c lead start =
+    record {
+      walk = lead.walk;
+      is_walk = lead.is_walk;
+      begins = subst (IsStart graph events) (sym lead.begins) start;
+      ends = lead.ends;
+      unfixed = lead.unfixed;
+      unended = lead.unended;
+    }
+
+-- ---- what is closed
+
+neither : (a b x : Bool) → (a || (not x && b)) ≡ false → x ≡ false → (a ≡ false) × (b ≡ false)
+neither true b x h e = absurd (true≢false h)
+neither false b false h e = (refl, h)
+neither false b true h e = absurd (true≢false e)
+
+just : (a b x : Bool) → (a || (not x && b)) ≡ false → a ≡ false
+just true b x h = absurd (true≢false h)
+just false b x h = refl
+
+open_end : (a b x : Bool) → x ≡ true → a ≡ false → (a || (not x && b)) ≡ false
+open_end false b true e h = refl
+open_end false b false e h = absurd (false≢true e)
+open_end true b x e h = absurd (true≢false h)
+
+open_before : (a b x : Bool) → a ≡ false → b ≡ false → (a || (not x && b)) ≡ false
+open_before false false true p q = refl
+open_before false false false p q = refl
+open_before true b x p q = absurd (true≢false p)
+open_before false true x p q = absurd (true≢false q)
+
+-- a fixed commit isn't reached
+pub closed_itself : (graph : List CommitRow) (events : List Event) (end : ℕ) → is_closed graph events end end ≡ true → IsReached graph events (id_at graph end) → ⊥
+closed_itself graph events end shut reached = by reached.walk reached.is_walk reached.ends reached.unfixed
+  where
+    fixed : (a b x : Bool) → x ≡ true → (a || (not x && b)) ≡ true → a ≡ true
+    fixed true b x e h = refl
+    fixed false b true e h = absurd (false≢true h)
+    fixed false b false e h = absurd (false≢true e)
+
+    is_fixed : is_named Fixed events (id_at graph end) ≡ true
+    is_fixed = fixed (is_named Fixed events (id_at graph end)) (is_named LastAffected events (id_at graph end)) (eqb end end) (eq-eqb end end refl) shut
+
+    by : (walk : List (List ℕ)) → IsWalk graph walk → last_of walk ≡ id_at graph end → All (λ x. is_named Fixed events x ≡ false) walk → ⊥
+    by [] w e u = w
+    by (a ∷ []) w e u =
+        true≢false (sym is_fixed ∙ subst (λ (x : List ℕ). is_named Fixed events x ≡ false) e (All-head (λ x. is_named Fixed events x ≡ false) a [] u))
+    by (a ∷ b ∷ rest) w e u = by (b ∷ rest) w.1 e (All-tail (λ x. is_named Fixed events x ≡ false) a (b ∷ rest) u)
+
+-- ---- the rows that were passed on the way down, and their marks
+
+pub record Searching (graph : List CommitRow) (events : List Event) (end at : ℕ) (marks : List Bool) : Type 0 where
+  pub within : at ≤ end + 1
+  pub size : length marks ≡ end + 1
+  pub itself : get_or marks end false ≡ true
+  pub sound : (n : ℕ) → n < end + 1 → get_or marks n false ≡ true → is_closed graph events end n ≡ false → Leads graph events (id_at graph n) (id_at graph end)
+  pub no_start : (n : ℕ) → at ≤ n → n < end + 1 → get_or marks n false ≡ true → is_closed graph events end n ≡ false → IsStart graph events (id_at graph n) → ⊥
+  pub passed : (n m : ℕ) → at ≤ n → n < end + 1 → get_or marks n false ≡ true → is_closed graph events end n ≡ false → m < end + 1 → IsParent graph (id_at graph m) (id_at graph n)
+      → get_or marks m false ≡ true
+
+-- at first only the commit itself is marked
+searching_first : (graph : List CommitRow) (events : List Event) (end : ℕ) (marks : List Bool) → end < length graph → is_closed graph events end end ≡ false → length marks ≡ end + 1
+    → get_or marks end false ≡ true → ((n : ℕ) → get_or marks n false ≡ true → n ≡ end) → Searching graph events end (end + 1) marks
+searching_first graph events end marks there unclosed size itself only =
+    record {
+      within = omega arith;
+      size = size;
+      itself = itself;
+      sound = λ n lt mark free.
+          subst (λ (k : ℕ). Leads graph events (id_at graph k) (id_at graph end)) (sym (only n mark))
+          (leads_itself graph events (id_at graph end) (has_row graph end there)
+          (just (is_named Fixed events (id_at graph end)) (is_named LastAffected events (id_at graph end)) (eqb end end) unclosed));
+      no_start = λ n le lt. absurd (omega arith);
+      passed = λ n m le lt. absurd (omega arith);
+    }
+
+none_of : (k n : ℕ) → get_or (replicate k false) n false ≡ false
+none_of k n =
+    elim (cases_lt n k) [
+      | inl lt ↦ get_or-replicate k n false false lt
+      | inr le ↦ get_or_past (replicate k false) n false (omega (arith, length-replicate k false))
+    ]
+
+pub searching_start : (graph : List CommitRow) (events : List Event) (end : ℕ) (marks : List Bool) → end < length graph → is_closed graph events end end ≡ false
+    → marks ≡ replicate (end + 1) false → Searching graph events end (end + 1) (set marks end true)
+searching_start graph events end marks there unclosed fresh =
+    let size : length marks ≡ end + 1 = ap (λ (xs : List Bool). length xs) fresh ∙ length-replicate (end + 1) false in
+    searching_first graph events end (set marks end true) there unclosed (length-set marks end true ∙ size) (get_or-set_same marks end true false (omega arith))
+    (λ n h.
+    elim (cases_eq n end) [
+      | inl same ↦ same
+      | inr other ↦ absurd (false≢true (sym (get_or-set_other marks end n true false other ∙ ap (λ (xs : List Bool). get_or xs n false) fresh ∙ none_of (end + 1) n) ∙ h))
+    ])
+
+module _ (graph : List CommitRow) (legal : IsLegal graph) (events : List Event) (end : ℕ) (there : end < length graph) where
+  -- a row that isn't marked, or that is closed, is passed over
+  pub searching_over : (at : ℕ) (marks : List Bool) → Searching graph events end (at + 1) marks → (get_or marks at false ≡ true → is_closed graph events end at ≡ false → ⊥)
+      → Searching graph events end at marks
+  searching_over at marks s shut =
+      record {
+        within = omega (arith, s.within);
+        size = s.size;
+        itself = s.itself;
+        sound = s.sound;
+        no_start = λ n le lt mark free.
+            elim (cases_eq n at) [
+              | inl same ↦ absurd (shut (subst (λ (k : ℕ). get_or marks k false ≡ true) same mark) (subst (λ (k : ℕ). is_closed graph events end k ≡ false) same free))
+              | inr other ↦ s.no_start n (omega arith) lt mark free
+            ];
+        passed = λ n m le lt mark free.
+            elim (cases_eq n at) [
+              | inl same ↦ absurd (shut (subst (λ (k : ℕ). get_or marks k false ≡ true) same mark) (subst (λ (k : ℕ). is_closed graph events end k ≡ false) same free))
+              | inr other ↦ s.passed n m (omega arith) lt mark free
+            ];
+      }
+
+  module _ (at : ℕ) (marks new : List Bool) (ns : List ℕ) (s : Searching graph events end (at + 1) marks) (mark : get_or marks at false ≡ true)
+      (free : is_closed graph events end at ≡ false) (named : map (id_at graph) ns ≡ parents_at graph at) (earlier : All (λ p. p < at) ns) (marked : IsMarked ns marks new) where
+    at_within : at < end + 1
+    at_within = omega (arith, s.within)
+
+    below : (n : ℕ) → Contains ns n → n < at
+    below n c = subst (λ (k : ℕ). k < at) c.2 (earlier c.0 n c.1)
+
+    parent_leads : (n : ℕ) → Contains ns n → is_closed graph events end n ≡ false → Leads graph events (id_at graph n) (id_at graph end)
+    parent_leads n c n_free =
+        let lower = below n c in
+        let free_of = neither (is_named Fixed events (id_at graph n)) (is_named LastAffected events (id_at graph n)) (eqb n end) n_free (ne_eqb n end (λ e. omega (arith, at_within))) in
+        leads_before graph events (id_at graph n) (id_at graph at) (id_at graph end)
+        (is_parent graph at (omega (arith, at_within)) (id_at graph n) (has_parent graph ns (parents_at graph at) named n c)) free_of.0 free_of.1 (s.sound at at_within mark free)
+
+    -- a mark of a row that was passed is an old one
+    was_marked : (n : ℕ) → at ≤ n → get_or new n false ≡ true → get_or marks n false ≡ true
+    was_marked n le h =
+        elim (why_marked ns marks new marked n h) [
+          | inl before ↦ before
+          | inr c ↦ absurd (omega (arith, below n c))
+        ]
+
+    parent_marked : (m : ℕ) → m < end + 1 → IsParent graph (id_at graph m) (id_at graph at) → get_or new m false ≡ true
+    parent_marked m lt parent =
+        let r = related graph legal (id_at graph m) (id_at graph at) parent in
+        let same : r.child ≡ at = one_row graph legal r.child at r.within (omega (arith, at_within)) r.child_id in
+        let p = parent_number graph ns (parents_at graph at) named (id_at graph m) (subst (λ (k : ℕ). Contains (parents_at graph k) (id_at graph m)) same r.named) in
+        let is : p.0 ≡ m = one_row graph legal p.0 m (omega (arith, below p.0 p.1, at_within)) (omega arith) p.2 in
+        subst (λ (k : ℕ). get_or new k false ≡ true) is (now_marked ns marks new marked p.0 p.1)
+
+    -- a row's parents are marked, and it is passed
+    pub searching_on : length new ≡ length marks → (IsStart graph events (id_at graph at) → ⊥) → Searching graph events end at new
+    searching_on size not_here =
+        record {
+          within = omega (arith, s.within);
+          size = size ∙ s.size;
+          itself = still_marked ns marks new marked end s.itself;
+          sound = λ n lt h n_free.
+              elim (why_marked ns marks new marked n h) [
+                | inl before ↦ s.sound n lt before n_free
+                | inr c ↦ parent_leads n c n_free
+              ];
+          no_start = λ n le lt h n_free.
+              elim (cases_eq n at) [
+                | inl same ↦ λ start. not_here (subst (λ (k : ℕ). IsStart graph events (id_at graph k)) same start)
+                | inr other ↦ s.no_start n (omega arith) lt (was_marked n le h) n_free
+              ];
+          passed = λ n m le lt h n_free m_lt parent.
+              elim (cases_eq n at) [
+                | inl same ↦ parent_marked m m_lt (subst (λ (k : ℕ). IsParent graph (id_at graph m) (id_at graph k)) same parent)
+                | inr other ↦ still_marked ns marks new marked m (s.passed n m (omega arith) lt (was_marked n le h) n_free m_lt parent)
+              ];
+        }
+
+  -- ---- at the end
+
+  record IsOpen (marks : List Bool) (a : List ℕ) : Type 0 where
+    number : ℕ
+    within : number < end + 1
+    is : id_at graph number ≡ a
+    marked : get_or marks number false ≡ true
+    free : is_closed graph events end number ≡ false
+
+  -- each commit of a walk to the end that nothing bars is marked
+  all_marked : (marks : List Bool) → Searching graph events end 0 marks → (a : List ℕ) (rest : List (List ℕ)) → IsWalk graph (a ∷ rest) → last_of (a ∷ rest) ≡ id_at graph end
+      → All (λ x. is_named Fixed events x ≡ false) (a ∷ rest) → All (λ x. is_named LastAffected events x ≡ false) (before_last (a ∷ rest)) → IsOpen marks a
+  all_marked marks s a [] walk ends unfixed unended =
+      record {
+        number = end;
+        within = omega arith;
+        is = sym ends;
+        marked = s.itself;
+        free =
+            open_end (is_named Fixed events (id_at graph end)) (is_named LastAffected events (id_at graph end)) (eqb end end) (eq-eqb end end refl)
+            (subst (λ (x : List ℕ). is_named Fixed events x ≡ false) ends (All-head (λ x. is_named Fixed events x ≡ false) a [] unfixed));
+      }
+  all_marked marks s a (b ∷ rest) walk ends unfixed unended =
+      let next = all_marked marks s b rest walk.1 ends (All-tail (λ x. is_named Fixed events x ≡ false) a (b ∷ rest) unfixed) (All-tail (λ x. is_named LastAffected events x ≡ false) a (before_last (b ∷ rest)) unended) in
+      let r = related graph legal a b walk.0 in
+      let same : r.child ≡ next.number = one_row graph legal r.child next.number r.within (omega (arith, next.within)) (r.child_id ∙ sym next.is) in
+      let lower : r.parent < end + 1 = omega (arith, r.earlier, same, next.within) in
+      record {
+        number = r.parent;
+        within = lower;
+        is = r.parent_id;
+        marked =
+            s.passed next.number r.parent (omega arith) next.within next.marked next.free lower
+            (subst (λ (x : List ℕ). IsParent graph x (id_at graph next.number)) (sym r.parent_id) (subst (IsParent graph a) (sym next.is) walk.0));
+        free =
+            subst (λ (x : List ℕ). (is_named Fixed events x || (not (eqb r.parent end) && is_named LastAffected events x)) ≡ false) (sym r.parent_id)
+            (open_before (is_named Fixed events a) (is_named LastAffected events a) (eqb r.parent end)
+            (All-head (λ x. is_named Fixed events x ≡ false) a (b ∷ rest) unfixed) (All-head (λ x. is_named LastAffected events x ≡ false) a (before_last (b ∷ rest)) unended));
+      }
+
+  pub not_reached : (marks : List Bool) → Searching graph events end 0 marks → IsReached graph events (id_at graph end) → ⊥
+  not_reached marks s reached = by reached.walk reached.is_walk reached.begins reached.ends reached.unfixed reached.unended
+    where
+      by : (walk : List (List ℕ)) → IsWalk graph walk → IsStart graph events (first_of walk) → last_of walk ≡ id_at graph end → All (λ x. is_named Fixed events x ≡ false) walk
+          → All (λ x. is_named LastAffected events x ≡ false) (before_last walk) → ⊥
+      by [] w b e u d = w
+      by (a ∷ rest) w b e u d =
+          let o = all_marked marks s a rest w e u d in
+          s.no_start o.number (omega arith) o.within o.marked o.free (subst (IsStart graph events) (sym o.is) b)
+
+  -- ---- where the range begins
+
+  module _ (at : ℕ) (lt : at < length graph) (ns : List ℕ) (named : map (id_at graph) ns ≡ parents_at graph at) (introduced roots : Bool)
+      (is : introduced ≡ is_named Introduced events (id_at graph at)) (all : roots ≡ names_all Introduced events) where
+    pub starts_here : (introduced || (roots && eqb (length ns) 0)) ≡ true → IsStart graph events (id_at graph at)
+    starts_here h =
+        elim (or_cases introduced (roots && eqb (length ns) 0) h) [
+          | inl one ↦ inl (sym is ∙ one)
+          | inr some ↦
+              let parts = and_parts roots (eqb (length ns) 0) some in
+              inr (sym all ∙ parts.0, is_root graph at lt (sym named ∙ none ns parts.1))
+        ]
+      where
+        none : (xs : List ℕ) → eqb (length xs) 0 ≡ true → map (id_at graph) xs ≡ []
+        none [] e = refl
+        none (x ∷ xs) e = absurd (omega (arith, eqb-true (length (x ∷ xs)) 0 e))
+
+    pub starts_not : (introduced || (roots && eqb (length ns) 0)) ≡ false → IsStart graph events (id_at graph at) → ⊥
+    starts_not h (inl one) = true≢false (sym (first_true introduced (roots && eqb (length ns) 0) (is ∙ one)) ∙ h)
+      where
+        first_true : (a b : Bool) → a ≡ true → (a || b) ≡ true
+        first_true true b e = refl
+        first_true false b e = absurd (false≢true e)
+    starts_not h (inr root) = true≢false (sym (second_true introduced (roots && eqb (length ns) 0) (and_from roots (eqb (length ns) 0) (all ∙ root.0) empty)) ∙ h)
+      where
+        second_true : (a b : Bool) → b ≡ true → (a || b) ≡ true
+        second_true true b e = refl
+        second_true false b e = e
+
+        empty : eqb (length ns) 0 ≡ true
+        empty = eq-eqb (length ns) 0 (sym (length-map ns (id_at graph)) ∙ ap (λ (xs : List (List ℕ)). length xs) (named ∙ root_parents graph legal at lt root.1))

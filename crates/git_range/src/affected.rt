@@ -1,0 +1,32 @@
+ghost use Rattle.std.specs.Prelude.{◌≡◌, ◌+◌, ◌*◌, ◌<◌, ◌≤◌, ◌↔◌, length, IsTrue, IfOk};
+ghost use Rattle.osv_prim.specs.Graphs.{id_at, IsAffected};
+
+use crate::events::all_read;
+use crate::limits::is_within_limits;
+use crate::reached::is_reached;
+use commit_graph::Graph;
+use osv_prim::{Event, Ledger, Memory, Steps};
+use std::alloc::Global;
+
+/// Whether a GIT range with these events affects the commit with this number of its repository's graph.
+/// It looks at each row at most twice, and takes three bytes a row.
+pub fn affects<L: Ledger>(
+    alloc: Global,
+    graph: &Graph,
+    events: &[Event],
+    number: u32,
+    steps: &mut Steps<L>,
+) -> Result<bool, Memory>
+    requires { number < length graph.now }
+    ensures affected { IfOk result (λ yes. IsTrue yes ↔ IsAffected graph.now events.now (id_at graph.now number)) }
+    ensures steps { steps.new.graph ≤ steps.old.graph + 2 * length graph.now }
+    ensures records { steps.new.record_count ≡ steps.old.record_count }
+{
+    if !all_read(events) {
+        return Ok(false);
+    }
+    if !is_within_limits(alloc, graph, events, number, steps)? {
+        return Ok(false);
+    }
+    is_reached(alloc, graph, events, number, steps)
+}

@@ -1,0 +1,11 @@
+//! Which commits a GIT range affects, by walks through a graph of commits.
+#![tactic(auto)]
+
+mod affected;
+mod events;
+mod limits;
+mod marks;
+mod reached;
+
+pub use affected::affects;
+pub use events::all_read;
