@@ -70,11 +70,12 @@ def compare(tool, ecosystem, versions, is_at_most, texts, reads):
         hits = ask(ecosystem, asked, [[version] for version in versions])
         for number, version in enumerate(versions):
             if (number in hits) != is_at_most(version, asked):
-                wrong.append(f"{version!r} is {'' if number in hits else 'not '}at or below {asked!r}, and {tool} says otherwise")
+                wrong.append(f"{version!r} is {'' if number in hits else 'not '}at or below {asked!r}")
     found = ask(ecosystem, versions[0], [["0", text] for text in texts])
     for number, text in enumerate(texts):
         if (number in found) != reads(text):
-            wrong.append(f"{text!r} is {'' if number in found else 'not '}read, and {tool} says otherwise")
-    print("\n".join(wrong[:SHOWN]) + ("\n" if wrong else "") +
-          f"{tool}: {len(versions) ** 2} pairs compared, {len(texts)} texts read or not, {len(wrong)} wrong")
+            wrong.append(f"{text!r} is {'' if number in found else 'not '}read")
+    for one in wrong[:SHOWN]:
+        print(f"{one}, and {tool} says otherwise")
+    print(f"{tool}: {len(versions) ** 2} pairs compared, {len(texts)} texts read or not, {len(wrong)} wrong")
     sys.exit(1 if wrong else 0)
