@@ -1,4 +1,4 @@
-ghost use Rattle.std.specs.Prelude.{◌≡◌, ◌↔◌, ◌+◌, ◌-◌, ◌^◌, ◌<◌, ◌∷◌, [], ◌++◌, length, map, min, option_map, slice_get, All, IfOk, IsTrue, is_some, false};
+ghost use Rattle.std.specs.Prelude.{◌≡◌, ◌↔◌, ◌+◌, ◌-◌, ◌^◌, ◌<◌, ◌∷◌, [], ◌++◌, length, map, min, option_map, slice_get, All, IfOk, IfSome, IsTrue, is_some, false};
 ghost use Rattle.osv_prim.specs.Graphs.{has, number_of, id_at, parents_at, IsLegal};
 ghost use Rattle.commit_graph.specs.Linked.{weight_of};
 
@@ -77,6 +77,17 @@ impl Graph {
     pub fn number_of(&self, oid: &Oid) -> Option<u32>
         ensures number { result ≡ number_of self.now oid.now }
         ensures found { is_some result ≡ has self.now oid.now }
+        ensures within { IfSome result (λ n. n < length self.now) }
+        ensures row { IfSome result (λ n. id_at self.now n ≡ oid.now) }
+        ensures legal { IsLegal self.now }
+    {
+        self.place_of(oid)
+    }
+
+    fn place_of(&self, oid: &Oid) -> Option<u32>
+        ensures number { result ≡ number_of self.now oid.now }
+        ensures found { is_some result ≡ has self.now oid.now }
+        ensures within { IfSome result (λ n. n < length self.now) }
         ensures legal { IsLegal self.now }
     {
         self.ids.get_index_of(oid).map(|number| number as u32)

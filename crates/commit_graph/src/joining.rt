@@ -1,6 +1,7 @@
-ghost use Rattle.std.specs.Prelude.{◌≡◌, ◌≢◌, ◌+◌, ◌<◌, ◌≤◌, not, true, length, map, All, Some, None, IsTrue, IfOk, OnOk, IfErr};
+ghost use Rattle.std.specs.Prelude.{◌≡◌, Ok, Err, ◌≢◌, ◌+◌, ◌<◌, ◌≤◌, not, true, length, map, All, Some, None, IsTrue, IfOk, OnOk, IfErr};
 ghost use Rattle.std.specs.List.{list_all};
 ghost use Rattle.osv_prim.specs.Graphs.{has, id_at, with_row, joined, IsLegal};
+ghost use Rattle.commit_graph.specs.Extended.{extended};
 ghost use Rattle.commit_graph.specs.Faults.{fault_of, IsSound, IsFirstFault};
 
 use crate::fault::GraphFault;
@@ -13,6 +14,27 @@ impl Graph {
     /// whose commit is there with the same parents in the same order is passed over. The first row that
     /// is faulty refuses them all. The graph itself stays as it is. It counts at most one graph step a row.
     pub fn extend<L: Ledger>(
+        &self,
+        alloc: Global,
+        rows: &[CommitRow],
+        most: u32,
+        steps: &mut Steps<L>,
+    ) -> Result<Graph, GraphFault>
+        ensures joined { IfOk result (λ g. g ≡ joined self.now rows.now) }
+        ensures sound { OnOk result (IsSound self.now most rows.now) }
+        ensures fault { IfErr result (λ e. e ≢ GraphFault.Memory → IsFirstFault self.now most rows.now e) }
+        ensures legal { IfOk result IsLegal }
+
+        // The same as a function of the rows.
+        ensures value { IfOk result (λ g. extended self.now most rows.now ≡ Ok g) }
+        ensures refused { IfErr result (λ e. e ≢ GraphFault.Memory → extended self.now most rows.now ≡ Err e) }
+        ensures steps { steps.new.graph ≤ steps.old.graph + length rows.now }
+        ensures records { steps.new.record_count ≡ steps.old.record_count }
+    {
+        self.with_rows(alloc, rows, most, steps)
+    }
+
+    fn with_rows<L: Ledger>(
         &self,
         alloc: Global,
         rows: &[CommitRow],

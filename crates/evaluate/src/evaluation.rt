@@ -3,37 +3,43 @@ ghost use Rattle.std.specs.Arc.{arc_value};
 ghost use Rattle.std.specs.BTreeMap.{values};
 ghost use Rattle.evaluate.specs.Hits.{hits, keyed};
 
-use crate::hit::is_hit_by;
-use osv_prim::{Id, Memory, Subject};
+use crate::asked::is_hit_by;
+use commit_graph::Graph;
+use osv_prim::{Id, Ledger, Memory, RepoKey, Steps, Subject};
 use osv_record::Record;
 use std::alloc::{AllocError, Global};
 use std::collections::BTreeMap;
 use std::sync::Arc;
 
 /// Of imports in order, those that hit what is asked, ascending by id. Of several with one id the
-/// last counts, also where it is the one that doesn't hit.
-pub fn hits(
+/// last counts, also where it is the one that doesn't hit. No withdrawn one hits. Each repository has
+/// its graph of commits, which only a subject with a commit needs.
+pub fn hits<L: Ledger>(
     alloc: Global,
     records: &[Arc<Record>],
+    repos: &[(RepoKey, Arc<Graph>)],
     subject: &Subject,
+    steps: &mut Steps<L>,
 ) -> Result<Vec<Arc<Record>>, Memory>
-    ensures { IfOk result (λ v. map (λ a. arc_value a) v.items ≡ hits (map (λ a. arc_value a) records.now) subject.now) }
+    ensures { IfOk result (λ v. map (λ a. arc_value a) v.items ≡ hits (map (λ a. arc_value a) records.now) (map (λ g. (g.0, arc_value g.1)) repos.now) subject.now) }
 {
-    let found = hits_by_id(alloc, records, subject)?;
+    let found = hits_by_id(alloc, records, repos, subject, steps)?;
     shared(alloc, values_of(alloc, found)?.as_slice())
 }
 
 // Only hits are kept, so the map stays small beside the imports, and few look-ups miss the cache.
-fn hits_by_id<'a>(
+fn hits_by_id<'a, L: Ledger>(
     alloc: Global,
     records: &'a [Arc<Record>],
+    repos: &[(RepoKey, Arc<Graph>)],
     subject: &Subject,
+    steps: &mut Steps<L>,
 ) -> Result<BTreeMap<&'a Id, &'a Arc<Record>>, Memory>
-    ensures { IfOk result (λ m. map (λ e. (e.0.now, arc_value e.1.now)) m.entries ≡ map keyed (hits (map (λ a. arc_value a) records.now) subject.now)) }
+    ensures { IfOk result (λ m. map (λ e. (e.0.now, arc_value e.1.now)) m.entries ≡ map keyed (hits (map (λ a. arc_value a) records.now) (map (λ g. (g.0, arc_value g.1)) repos.now) subject.now)) }
 {
     let mut found = BTreeMap::new(alloc);
     for record in records {
-        if is_hit_by(alloc, record, subject)? {
+        if is_hit_by(alloc, record, repos, subject, steps)? {
             found.insert(&record.id, record)?;
         } else {
             found.remove(&&record.id);

@@ -1,9 +1,9 @@
 ghost use Rattle.std.specs.Prelude.{◌≡◌, IfOk, option_map};
 ghost use Rattle.std.specs.List.{list_any};
 ghost use Rattle.std.specs.Str.{bytes_eq};
-ghost use Rattle.evaluate.specs.Hits.{version_hit, entry_hit, is_touched, is_in_extent, hit};
+ghost use Rattle.evaluate.specs.Hits.{version_hit, entry_hit, is_touched, is_in_extent};
 
-use osv_prim::{Memory, PackageKey, ReadVersion, Subject, Text};
+use osv_prim::{Memory, PackageKey, ReadVersion, Text};
 use osv_record::{Affected, Range, Record};
 use std::alloc::Global;
 use version_order::{Order, Version, contains};
@@ -91,19 +91,5 @@ fn is_in_range(alloc: Global, ecosystem: &str, text: &str, range: &Range) -> Res
         Ok(version) => contains(alloc, order, range.events.as_slice(), &version),
         Err(ReadVersion::NotAVersion) => Ok(false),
         Err(ReadVersion::Memory) => Err(Memory),
-    }
-}
-
-pub(crate) fn is_hit_by(alloc: Global, record: &Record, subject: &Subject) -> Result<bool, Memory>
-    ensures { IfOk result (λ b. b ≡ hit subject.now record.now) }
-{
-    if record.withdrawn {
-        return Ok(false);
-    }
-    match subject {
-        Subject::Package(asked, version) => match version {
-            Some(text) => version_hit(alloc, record, asked, Some(text.as_str())),
-            None => version_hit(alloc, record, asked, None),
-        },
     }
 }

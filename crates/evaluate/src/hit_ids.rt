@@ -1,13 +1,16 @@
-ghost use Rattle.std.specs.Prelude.{◌≡◌, ◌++◌, ◌∷◌, [], List, IfOk, OnOk, OnErr};
+ghost use Rattle.std.specs.Prelude.{◌≡◌, ◌++◌, ◌∷◌, [], List, map, IfOk, OnOk, OnErr};
+ghost use Rattle.std.specs.Arc.{arc_value};
 ghost use Rattle.osv_record.specs.Advisories.{Advisory};
 ghost use Rattle.evaluate.specs.Hits.{hit_ids};
 
-use crate::hit::is_hit_by;
-use osv_prim::{Id, Memory, Subject};
+use crate::asked::is_hit_by;
+use commit_graph::Graph;
+use osv_prim::{Id, Ledger, Memory, RepoKey, Steps, Subject};
 use osv_record::Record;
 use std::alloc::{AllocError, Global};
 use std::collections::BTreeSet;
 use std::marker::Model;
+use std::sync::Arc;
 
 /// The ids of the hits of imports that come one after another. No import is kept, so it holds no
 /// more than the ids of the hits. Contracts see the ids, ascending.
@@ -36,16 +39,23 @@ impl HitIds {
 
     /// One more import, which takes the place of an earlier one of its id. A refused one changes
     /// nothing. It takes O(log n) comparisons of ids, n being the hits so far.
-    pub fn import(&mut self, alloc: Global, record: Record, subject: &Subject) -> Result<(), Memory>
-        ensures ok { OnOk result ((imports : List Advisory) → self.old ≡ hit_ids imports subject.now
-            → self.new ≡ hit_ids (imports ++ «record» ∷ []) subject.now) }
+    pub fn import<L: Ledger>(
+        &mut self,
+        alloc: Global,
+        advisory: Record,
+        repos: &[(RepoKey, Arc<Graph>)],
+        subject: &Subject,
+        steps: &mut Steps<L>,
+    ) -> Result<(), Memory>
+        ensures ok { OnOk result ((imports : List Advisory) → self.old ≡ hit_ids imports (map (λ g. (g.0, arc_value g.1)) repos.now) subject.now
+            → self.new ≡ hit_ids (imports ++ advisory ∷ []) (map (λ g. (g.0, arc_value g.1)) repos.now) subject.now) }
         ensures err { OnErr result (self.new ≡ self.old) }
     {
-        if is_hit_by(alloc, &record, subject)? {
-            let Record { id, .. } = record;
+        if is_hit_by(alloc, &advisory, repos, subject, steps)? {
+            let Record { id, .. } = advisory;
             self.ids.insert(id)?;
         } else {
-            self.ids.remove(&record.id);
+            self.ids.remove(&advisory.id);
         }
         Ok(())
     }

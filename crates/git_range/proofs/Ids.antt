@@ -19,10 +19,10 @@ row_of graph a c = (c.0, omega (arith, c.1, length-ids graph), get_or_default (i
 pub has_row : (graph : List CommitRow) (n : ℕ) → n < length graph → Contains (ids graph) (id_at graph n)
 has_row graph n lt = Contains-get_or (ids graph) n [] (omega (arith, length-ids graph))
 
-id_of_row : (graph : List CommitRow) (k : ℕ) (r : CommitRow) → k < length graph → get_or graph k r ≡ r → id_at graph k ≡ r.oid
+pub id_of_row : (graph : List CommitRow) (k : ℕ) (r : CommitRow) → k < length graph → get_or graph k r ≡ r → id_at graph k ≡ r.oid
 id_of_row graph k r lt at = get_or-map (λ (x : CommitRow). x.oid) graph k r [] lt ∙ ap (λ (x : CommitRow). x.oid) at
 
-parents_of_row : (graph : List CommitRow) (k : ℕ) (r : CommitRow) → k < length graph → get_or graph k r ≡ r → parents_at graph k ≡ r.parents
+pub parents_of_row : (graph : List CommitRow) (k : ℕ) (r : CommitRow) → k < length graph → get_or graph k r ≡ r → parents_at graph k ≡ r.parents
 parents_of_row graph k r lt at = get_or-map (λ (x : CommitRow). x.parents) graph k r [] lt ∙ ap (λ (x : CommitRow). x.parents) at
 
 -- two rows: a commit's, and its parent's
@@ -44,7 +44,7 @@ module _ (graph : List CommitRow) (legal : IsLegal graph) where
         | inr (inr gt) ↦ absurd (legal.differ m n [] gt (omega (arith, length-ids graph)) (sym e))
       ]
 
-  earlier_row : (p : List ℕ) (k : ℕ) → k < length graph → Contains (take k (ids graph)) p → (j : ℕ) × (j < k) × (id_at graph j ≡ p)
+  pub earlier_row : (p : List ℕ) (k : ℕ) → k < length graph → Contains (take k (ids graph)) p → (j : ℕ) × (j < k) × (id_at graph j ≡ p)
   earlier_row p k lt c =
       let below : c.0 < k = omega (arith, c.1, length-take k (ids graph)) in
       (c.0, below, get_or_default (ids graph) c.0 [] p (omega (arith, length-ids graph)) ∙ sym (get_or-take k (ids graph) c.0 p below) ∙ c.2)
@@ -76,10 +76,10 @@ module _ (graph : List CommitRow) (legal : IsLegal graph) where
 -- ---- from rows to commits
 
 module _ (graph : List CommitRow) (n : ℕ) (lt : n < length graph) where
-  some_row : CommitRow
+  pub some_row : CommitRow
   some_row = get_or graph n (record { oid = []; parents = [] })
 
-  at_row : get_or graph n some_row ≡ some_row
+  pub at_row : get_or graph n some_row ≡ some_row
   unfolding some_row
   at_row = get_or_default graph n (get_or graph n (record { oid = []; parents = [] })) (record { oid = []; parents = [] }) lt
 

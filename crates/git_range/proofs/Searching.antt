@@ -20,7 +20,7 @@ pub record Leads (graph : List CommitRow) (events : List Event) (a c : List ℕ)
   pub unfixed : All (λ x. is_named Fixed events x ≡ false) walk
   pub unended : All (λ x. is_named LastAffected events x ≡ false) (before_last walk)
 
-leads_itself : (graph : List CommitRow) (events : List Event) (c : List ℕ) → Contains (ids graph) c → is_named Fixed events c ≡ false → Leads graph events c c
+pub leads_itself : (graph : List CommitRow) (events : List Event) (c : List ℕ) → Contains (ids graph) c → is_named Fixed events c ≡ false → Leads graph events c c
 leads_itself graph events c there unfixed =
     record {
       walk = c ∷ [];
@@ -31,7 +31,7 @@ leads_itself graph events c there unfixed =
       unended = All-nil (λ x. is_named LastAffected events x ≡ false);
     }
 
-leads_before : (graph : List CommitRow) (events : List Event) (p a c : List ℕ) → IsParent graph p a → is_named Fixed events p ≡ false → is_named LastAffected events p ≡ false
+pub leads_before : (graph : List CommitRow) (events : List Event) (p a c : List ℕ) → IsParent graph p a → is_named Fixed events p ≡ false → is_named LastAffected events p ≡ false
     → Leads graph events a c → Leads graph events p c
 leads_before graph events p a c parent unfixed unended lead = by lead.walk lead.is_walk lead.begins lead.ends lead.unfixed lead.unended
   where

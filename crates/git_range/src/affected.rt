@@ -1,4 +1,5 @@
 ghost use Rattle.std.specs.Prelude.{◌≡◌, ◌+◌, ◌*◌, ◌<◌, ◌≤◌, ◌↔◌, length, IsTrue, IfOk};
+ghost use Rattle.git_range.specs.Affected.{is_affected};
 ghost use Rattle.osv_prim.specs.Graphs.{id_at, IsAffected};
 
 use crate::events::all_read;
@@ -11,6 +12,24 @@ use std::alloc::Global;
 /// Whether a GIT range with these events affects the commit with this number of its repository's graph.
 /// It looks at each row at most twice, and takes three bytes a row.
 pub fn affects<L: Ledger>(
+    alloc: Global,
+    graph: &Graph,
+    events: &[Event],
+    number: u32,
+    steps: &mut Steps<L>,
+) -> Result<bool, Memory>
+    requires { number < length graph.now }
+    ensures affected { IfOk result (λ yes. IsTrue yes ↔ IsAffected graph.now events.now (id_at graph.now number)) }
+    ensures value { IfOk result (λ yes. yes ≡ is_affected graph.now events.now (id_at graph.now number)) }
+    ensures steps { steps.new.graph ≤ steps.old.graph + 2 * length graph.now }
+    ensures records { steps.new.record_count ≡ steps.old.record_count }
+{
+    // Its contract tells that the graph is legal.
+    let _ = graph.len();
+    walks_affect(alloc, graph, events, number, steps)
+}
+
+fn walks_affect<L: Ledger>(
     alloc: Global,
     graph: &Graph,
     events: &[Event],

@@ -3,6 +3,7 @@
 
 mod affected;
 mod events;
+pub mod laws;
 mod limits;
 mod marks;
 mod reached;

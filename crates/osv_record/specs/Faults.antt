@@ -21,7 +21,6 @@ code_of faults.NoIntroduced = 12
 code_of faults.BadPackage = 13
 code_of faults.TooLarge = 14
 code_of faults.Memory = 15
-code_of faults.NotBuilt = 16
 
 abbrev pub wrong_type_name : Member → List ℕ
 wrong_type_name members.Withdrawn = codes "WrongType(Withdrawn)"
@@ -50,4 +49,3 @@ name_of faults.NoIntroduced = codes "NoIntroduced"
 name_of faults.BadPackage = codes "BadPackage"
 name_of faults.TooLarge = codes "TooLarge"
 name_of faults.Memory = codes "Memory"
-name_of faults.NotBuilt = codes "NotBuilt"

@@ -156,12 +156,5 @@ record_of bytes d =
     affected_of (named (codes "affected") advisory) >>= λ affected.
     Ok (record { id = id; modified = modified.0; modified_text = modified.1; withdrawn = withdrawn; affected = affected; text = bytes })
 
--- what is evaluated so far: entries with a package, and without GIT ranges
-abbrev pub is_built : List Entry → Bool
-is_built entries = list_all (λ (a : Entry). is_some a.«package» && not (list_any (λ (r : Extent). is_git r.kind) a.ranges)) entries
-
-abbrev pub built : Advisory → Result Advisory RecordFault
-built r = when (is_built r.affected) refusal.NotBuilt r
-
 unfoldable pub advisory : List ℕ → Result Advisory RecordFault
-advisory bytes = if nat_lt most_bytes (length bytes) then Err refusal.TooLarge else (or_refuse refusal.NotJson (json bytes) >>= record_of bytes >>= built)
+advisory bytes = if nat_lt most_bytes (length bytes) then Err refusal.TooLarge else (or_refuse refusal.NotJson (json bytes) >>= record_of bytes)

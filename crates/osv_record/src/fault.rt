@@ -57,8 +57,6 @@ pub enum RecordFault {
     BadEvent,
     /// No event of a range is `introduced`.
     NoIntroduced,
-    /// The advisory has what is not evaluated yet: a GIT range, or an entry without a package.
-    NotBuilt,
     /// Want of memory.
     Memory,
 }
@@ -86,7 +84,6 @@ impl RecordFault {
             RecordFault::BadPackage => 13,
             RecordFault::TooLarge => 14,
             RecordFault::Memory => 15,
-            RecordFault::NotBuilt => 16,
         }
     }
 
@@ -110,7 +107,6 @@ impl RecordFault {
             RecordFault::BadPackage => "BadPackage",
             RecordFault::TooLarge => "TooLarge",
             RecordFault::Memory => "Memory",
-            RecordFault::NotBuilt => "NotBuilt",
         }
     }
 }

@@ -3,18 +3,15 @@ ghost use Rattle.serde_json.specs.Find.{as_object};
 ghost use Rattle.osv_prim.specs.Results.{Gives, each, or_refuse};
 ghost use Rattle.json_view.specs.Json.{json};
 ghost use Rattle.json_view.specs.Views.{document_value, node_value, element_values};
-ghost use Rattle.std.specs.List.{list_any};
-ghost use Rattle.osv_record.specs.Advisories.{Extent, is_git};
-ghost use Rattle.osv_record.specs.Reading.{advisory, record_of, affected_of, entry_of, version_of, id_of, modified_of, time_from, withdrawn_of, is_built};
+ghost use Rattle.osv_record.specs.Reading.{advisory, record_of, affected_of, entry_of, version_of, id_of, modified_of, time_from, withdrawn_of};
 
 use crate::fault::{Member, RecordFault};
 use crate::members::{list_or_none, object_or, text_or};
 use crate::packages::package_of;
-use crate::range::Range;
 use crate::ranges::ranges_of;
 use crate::record::{Affected, Record};
 use json_view::{Document, Elements, JsonFault, Node, Room};
-use osv_prim::{Bytes, Id, IdFault, List, RangeKind, Stop, Text};
+use osv_prim::{Bytes, Id, IdFault, List, Stop, Text};
 use std::alloc::Global;
 
 const MOST_BYTES: usize = 16_777_216;
@@ -149,20 +146,6 @@ fn document_of<'a>(
     }
 }
 
-fn is_built(entries: &[Affected]) -> bool
-    ensures { result ≡ is_built entries.now }
-{
-    entries.iter().all(|entry| entry.package.is_some() && !has_git(entry.ranges.as_slice()))
-}
-
-fn has_git(ranges: &[Range]) -> bool
-    ensures { result ≡ list_any (λ (r : Extent). is_git r.kind) ranges.now }
-{
-    ranges
-        .iter()
-        .any(|range| matches!(range.kind, RangeKind::Git))
-}
-
 #[tactic(auto, unfolding(crate::specs::Reading::advisory))]
 pub(crate) fn record_from(
     alloc: Global,
@@ -175,9 +158,5 @@ pub(crate) fn record_from(
         return Err(Stop::Refused(RecordFault::TooLarge));
     }
     let document = document_of(alloc, bytes, room)?;
-    let record = record_of(alloc, bytes, document.root())?;
-    if !is_built(record.affected.as_slice()) {
-        return Err(Stop::Refused(RecordFault::NotBuilt));
-    }
-    Ok(record)
+    record_of(alloc, bytes, document.root())
 }

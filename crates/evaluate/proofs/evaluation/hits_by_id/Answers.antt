@@ -8,21 +8,22 @@ use Rattle.evaluate.proofs.evaluation.hits_by_id.Goals as goal
 use Rattle.evaluate.proofs.evaluation.hits_by_id.Goals.{then-branch+in_ok-insert, else-branch}
 
 pub loop-record-preserved : goal.loop-record-preserved
-loop-record-preserved c =
+loop-record-preserved g c =
+    let repos = map (λ g. (g.0, arc_value g.1)) c.args.repos.now in
     let s = c.args.subject.now in
     let r = arc_value c.record-item.result in
     let before = map (λ a. arc_value a) (take c.loop-record.record-index c.args.records.now) in
-    let answer : c.in_ok-is_hit_by.field-0 ≡ hit s r = c.in_ok-is_hit_by.ensures ∙ ap (hit s) c.deref.ensures in
-    let next = ap (λ (xs : List Advisory). map keyed (hits xs s)) (sym (one_more (λ a. arc_value a) c.args.records.now c.loop-record.record-index c.record-item.result c.loop-record-test.true c.record-item.is)) in
+    let answer : c.in_ok-is_hit_by.field-0 ≡ hit repos s r = c.in_ok-is_hit_by.ensures ∙ ap (hit repos s) c.deref.ensures in
+    let next = ap (λ (xs : List Advisory). map keyed (hits xs repos s)) (sym (one_more (λ a. arc_value a) c.args.records.now c.loop-record.record-index c.record-item.result c.loop-record-test.true c.record-item.is)) in
     elim c.if-branch.branch [
       | then-branch+in_ok-insert w ↦
           ap (λ m. map (pair (λ x. arc_value x.now)) m.entries) w.found-is
           ∙ ap (map (pair (λ x. arc_value x.now))) w.in_ok-insert.ensures.entries
-          ∙ inserted (λ x. arc_value x.now) c.loop-record.found.entries _ _ before r s (ap (λ (y : Advisory). y.id) (w.behind-record.view_is ∙ w.deref-then-branch.ensures)) refl (sym answer ∙ w.if-branch.true) c.loop-record.invariant
+          ∙ inserted (λ x. arc_value x.now) c.loop-record.found.entries _ _ before r repos s (ap (λ (y : Advisory). y.id) (w.behind-record.view_is ∙ w.deref-then-branch.ensures)) refl (sym answer ∙ w.if-branch.true) c.loop-record.invariant
           ∙ next
       | else-branch w ↦
           ap (λ m. map (pair (λ x. arc_value x.now)) m.entries) w.found-is
           ∙ ap (map (pair (λ x. arc_value x.now))) w.remove.ensures.entries
-          ∙ taken_out (λ x. arc_value x.now) _ c.loop-record.found.entries before r s (λ k. ap (λ (y : Advisory). is_eq (by_id y.id k.now)) (w.behind-record-else-branch.view_is ∙ w.deref-else-branch.ensures)) (sym answer ∙ w.if-branch.false) c.loop-record.invariant
+          ∙ taken_out (λ x. arc_value x.now) _ c.loop-record.found.entries before r repos s (λ k. ap (λ (y : Advisory). is_eq (by_id y.id k.now)) (w.behind-record-else-branch.view_is ∙ w.deref-else-branch.ensures)) (sym answer ∙ w.if-branch.false) c.loop-record.invariant
           ∙ next
     ]

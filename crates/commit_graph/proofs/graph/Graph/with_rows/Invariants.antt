@@ -1,7 +1,7 @@
 use Rattle.std.proofs.Common.{◌≡◌, ℕ, ◌+◌, ◌<◌, ◌≤◌, None, take}
 use Rattle.osv_prim.specs.Graphs.{joined}
 use Rattle.commit_graph.specs.Faults.{fault_at}
-use Rattle.commit_graph.proofs.graph.Graph.extend.Given as goal
+use Rattle.commit_graph.proofs.graph.Graph.with_rows.Given as goal
 
 abbrev pub invariant-loop-place : goal.invariant-loop-place
 invariant-loop-place g l =
