@@ -29,6 +29,7 @@ pub fn affects<L: Ledger>(
     walks_affect(alloc, graph, events, number, steps)
 }
 
+// As `affects`, told of walks alone.
 fn walks_affect<L: Ledger>(
     alloc: Global,
     graph: &Graph,
