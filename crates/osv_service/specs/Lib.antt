@@ -6,3 +6,4 @@ pub mod Asked
 pub mod Checked
 pub mod Run
 pub mod Said
+pub mod Reader

@@ -7,6 +7,7 @@ mod check;
 mod command;
 mod input;
 mod lines;
+mod matched;
 mod number;
 mod program;
 mod said;
