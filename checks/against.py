@@ -1,13 +1,13 @@
 """What the comparisons with other programs' orders of versions share; they import it, and it does nothing alone.
 
 The program is asked for each of some versions over advisories that introduce each of the others, so
-its hits are the versions that it has at or below the asked one. It is $OSV_SERVICE, or else
-bin/osv_service of this repository.
+its hits are the versions that it has at or below the asked one. It is $OSV_SERVICE, or else that of
+this repository.
 """
-import json, os, random, subprocess, sys
+import json, random, subprocess, sys
 
-TOP = os.path.dirname(os.path.dirname(os.path.abspath(__file__)))
-PROGRAM = os.environ.get("OSV_SERVICE") or os.path.join(TOP, "bin", "osv_service")
+from program import built
+
 SHOWN = 10
 
 
@@ -46,14 +46,14 @@ def mangled(dice, text, letters):
     return text
 
 
-def ask(ecosystem, version, ranges):
+def ask(program, ecosystem, version, ranges):
     """The numbers of the ranges that have the version, each given by the values of its introduced events."""
     lines = []
     for number, values in enumerate(ranges):
         events = [{"introduced": value} for value in values]
         affected = [{"package": {"ecosystem": ecosystem, "name": "p"}, "ranges": [{"type": "ECOSYSTEM", "events": events}]}]
         lines.append(json.dumps({"id": str(number), "modified": "2024-01-01T00:00:00Z", "affected": affected}) + "\n")
-    words = [PROGRAM, "ask", ecosystem, "p", version]
+    words = [program, "ask", ecosystem, "p", version]
     done = subprocess.run(words, input="".join(lines).encode(), stdout=subprocess.PIPE, timeout=600)
     if done.returncode:
         sys.exit(f"{' '.join(words)}: status {done.returncode}, {done.stdout.decode()}")
@@ -65,16 +65,17 @@ def compare(tool, ecosystem, versions, is_at_most, texts, reads):
 
     `is_at_most(a, b)` and `reads(text)` are the other one's. Ends with 1 where the two differ.
     """
-    wrong = []
+    program, wrong = built(), []
     for asked in versions:
-        hits = ask(ecosystem, asked, [[version] for version in versions])
+        hits = ask(program, ecosystem, asked, [[version] for version in versions])
         for number, version in enumerate(versions):
             if (number in hits) != is_at_most(version, asked):
-                wrong.append(f"{version!r} is {'' if number in hits else 'not '}at or below {asked!r}, and {tool} says otherwise")
-    found = ask(ecosystem, versions[0], [["0", text] for text in texts])
+                wrong.append(f"{version!r} is {'' if number in hits else 'not '}at or below {asked!r}")
+    found = ask(program, ecosystem, versions[0], [["0", text] for text in texts])
     for number, text in enumerate(texts):
         if (number in found) != reads(text):
-            wrong.append(f"{text!r} is {'' if number in found else 'not '}read, and {tool} says otherwise")
-    print("\n".join(wrong[:SHOWN]) + ("\n" if wrong else "") +
-          f"{tool}: {len(versions) ** 2} pairs compared, {len(texts)} texts read or not, {len(wrong)} wrong")
+            wrong.append(f"{text!r} is {'' if number in found else 'not '}read")
+    for one in wrong[:SHOWN]:
+        print(f"{one}, and {tool} says otherwise")
+    print(f"{tool}: {len(versions) ** 2} pairs compared, {len(texts)} texts read or not, {len(wrong)} wrong")
     sys.exit(1 if wrong else 0)

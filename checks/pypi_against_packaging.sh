@@ -30,13 +30,15 @@ def word(dice, kind):
 def version(dice):
     text = dice.one_of(["", "", "", "", "", "", "v", "V"])
     text += number(dice) + "!" if dice.chance(0.1) else ""
-    text += dice.one_of(["1", "1.0", "1.0.0"]) if dice.chance(0.7) else ".".join(number(dice) for _ in range(1 + dice.below(4)))
+    numbers = ".".join(number(dice) for _ in range(1 + dice.below(4)))
+    text += dice.one_of(["1", "1.0", "1.0.0"]) if dice.chance(0.7) else numbers
     text += word(dice, "pre") if dice.chance(0.4) else ""
     if dice.chance(0.3):
         text += "-" + number(dice) if dice.chance(0.3) else word(dice, "post")
     text += word(dice, "dev") if dice.chance(0.3) else ""
     if dice.chance(0.4):
-        text += "+" + dice.one_of(LOCALS) + "".join(dice.one_of(".-_") + dice.one_of(LOCALS) for _ in range(dice.below(3)))
+        more = "".join(dice.one_of(".-_") + dice.one_of(LOCALS) for _ in range(dice.below(3)))
+        text += "+" + dice.one_of(LOCALS) + more
     return text
 
 

@@ -10,8 +10,8 @@ import json, os, re, shutil, subprocess
 from against import Dice, compare, different, mangled
 
 NUMBERS = ["0", "0", "1", "1", "1", "2", "9", "10", "100", "4294967296", "900719925474099"]
-PARTS = ["0", "1", "2", "9", "10", "11", "100", "900719925474099", "a", "A", "alpha", "beta", "rc", "z", "Z", "-", "--", "a-b",
-         "a0", "a9", "a10", "0a", "1a", "00a", "1-", "-1"]
+PARTS = ["0", "1", "2", "9", "10", "11", "100", "900719925474099", "a", "A", "alpha", "beta", "rc", "z", "Z", "-", "--",
+         "a-b", "a0", "a9", "a10", "0a", "1a", "00a", "1-", "-1"]
 BUILDS = ["a", "1", "01", "0.00", "a.b-c", "-"]
 
 SCRIPT = """
@@ -58,8 +58,8 @@ def main():
     dice = Dice(1)
     versions = different(120, lambda: version(dice))
     texts = different(400, lambda: text(dice))
-    done = subprocess.run(["node", "-e", SCRIPT, module], input=json.dumps([versions, texts]).encode(), stdout=subprocess.PIPE, check=True)
-    at_most, valid = json.loads(done.stdout)
+    words, asked = ["node", "-e", SCRIPT, module], json.dumps([versions, texts]).encode()
+    at_most, valid = json.loads(subprocess.run(words, input=asked, stdout=subprocess.PIPE, check=True).stdout)
     place = {version: number for number, version in enumerate(versions)}
     valid = dict(zip(texts, valid))
     compare("npm's semver", "npm", versions, lambda a, b: at_most[place[a]][place[b]], texts, valid.get)

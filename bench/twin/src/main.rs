@@ -1,13 +1,20 @@
 //! Does what `osv_service ask` does, in plain Rust, to be measured beside it.
 
 mod advisory;
+mod fault;
+mod json;
 mod package;
+mod range;
+mod time;
+mod version;
 
-use advisory::{Advisory, Fault};
+use advisory::Advisory;
+use fault::Fault;
 use package::Package;
 use std::collections::BTreeSet;
 use std::io::{self, BufRead, BufReader, Read, Write};
 use std::process::ExitCode;
+use version::Version;
 
 const MOST_INPUT: u64 = 1 << 30;
 
@@ -20,29 +27,26 @@ usage: osv_service ask [--input N] ECOSYSTEM NAME [VERSION]
        osv_service serve [SETTINGS] [--lanes N] [--helpers N] ADDRESS
 ";
 
-/// A package and one version of it.
-struct Question {
-    package: Package<'static>,
-    version: String,
+/// A package, and one version of it or all.
+struct Question<'a> {
+    package: Package<'a>,
+    version: Option<Version<'a>>,
 }
 
-/// The question that the words ask, where they are `ask ECOSYSTEM NAME VERSION`.
-fn question() -> Option<Question> {
-    let words: Result<Vec<String>, _> = std::env::args_os()
-        .skip(1)
-        .map(|word| word.into_string())
-        .collect();
-    let [ask, ecosystem, name, version]: [String; 4] = words.ok()?.try_into().ok()?;
-    let is_option = |word: &str| word.len() > 1 && word.starts_with('-');
-    let is_asked = ask == "ask"
-        && !ecosystem.is_empty()
-        && !name.is_empty()
-        && ![&ecosystem, &name, &version]
-            .iter()
-            .any(|word| is_option(word));
-    is_asked.then(|| Question {
+/// The question that the words ask, where they are `ask ECOSYSTEM NAME [VERSION]`. There are no options.
+fn question(words: &[String]) -> Option<Question<'_>> {
+    let (ecosystem, name, version) = match words {
+        [ask, ecosystem, name] if ask == "ask" => (ecosystem, name, None),
+        [ask, ecosystem, name, version] if ask == "ask" => (ecosystem, name, Some(version)),
+        _ => return None,
+    };
+    let is_option = |word: &String| word.len() > 1 && word.starts_with('-');
+    if ecosystem.is_empty() || name.is_empty() || words.iter().any(is_option) {
+        return None;
+    }
+    Some(Question {
         package: Package::new(ecosystem.into(), name.into()),
-        version,
+        version: version.map(|text| Version::new(text)),
     })
 }
 
@@ -66,7 +70,7 @@ fn answer(question: &Question, input: impl Read) -> io::Result<(u8, String)> {
             continue;
         }
         match Advisory::read(&line) {
-            Ok(advisory) if advisory.is_hit(&question.package, &question.version) => {
+            Ok(advisory) if advisory.is_hit(&question.package, question.version.as_ref()) => {
                 if !hits.contains(&*advisory.id) {
                     hits.insert(advisory.id.into_owned());
                 }
@@ -83,8 +87,7 @@ fn answer(question: &Question, input: impl Read) -> io::Result<(u8, String)> {
         return Ok((5, format!("refused input larger than {MOST_INPUT}\n")));
     }
     if let Some((number, fault)) = refused {
-        let (code, name) = fault.code_and_name();
-        return Ok((5, format!("refused line {number} {code} {name}\n")));
+        return Ok((5, format!("refused line {number} {fault}\n")));
     }
     let mut text = String::new();
     for id in hits {
@@ -95,7 +98,13 @@ fn answer(question: &Question, input: impl Read) -> io::Result<(u8, String)> {
 }
 
 fn main() -> ExitCode {
-    let (status, text) = match question() {
+    let words: Result<Vec<String>, _> = std::env::args_os()
+        .skip(1)
+        .map(|word| word.into_string())
+        .collect();
+    // A word that is not UTF-8 is in no question.
+    let words = words.unwrap_or_default();
+    let (status, text) = match question(&words) {
         None => (2, USAGE.to_string()),
         Some(question) => match answer(&question, io::stdin().lock()) {
             Ok(answer) => answer,

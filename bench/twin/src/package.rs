@@ -16,6 +16,11 @@ impl<'a> Package<'a> {
         Package { ecosystem, name }
     }
 
+    /// The ecosystem without what stands behind its first `:`.
+    pub fn base(&self) -> &str {
+        base(&self.ecosystem)
+    }
+
     /// Whether this package, an advisory's, matches the asked one.
     pub fn matches(&self, asked: &Package) -> bool {
         self.name == asked.name

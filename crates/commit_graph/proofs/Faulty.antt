@@ -1,8 +1,9 @@
 -- The faults of rows, one row after another.
-use Rattle.std.proofs.Common.{◌≡◌, ℕ, ◌+◌, ◌<◌, Bool, true, false, not, if◌then◌else◌, leb, List, length, take, get_or, slice_get, Option, Some, None, refl, sym, ap, subst, ◌∙◌, arith, below_more}
+use Rattle.std.proofs.Common.{◌≡◌, ℕ, ◌+◌, ◌<◌, Bool, true, false, not, if◌then◌else◌, leb, List, length, take, get_or, slice_get, Option, Some, None, refl, sym, ap, subst, ◌∙◌, arith, below_more, ◌++◌, [], ◌∷◌, length-append}
 use Rattle.std.specs.List.{list_any, list_all}
 use Rattle.std.specs.Option.{option_map_or}
 use Rattle.std.specs.Str.{bytes_eq}
+use Rattle.std.proofs.lemmas.List.{get_or_at, take_at}
 use Rattle.std.proofs.lemmas.List.Sums.{fold_more}
 use Rattle.std.proofs.lemmas.Option.{slice_get_read, slice_get_within, get_or_from_slice_get}
 use Rattle.osv_prim.specs.declared.oid.CommitRow.{CommitRow}
@@ -75,3 +76,26 @@ module _ (graph : List CommitRow) (most : ℕ) (rows : List CommitRow) (place : 
         found = subst (λ (k : ℕ). fault_at graph most rows k ≡ Some e) (sym named) (here ∙ found);
         first = λ k k_lt. before k (omega arith);
       }
+
+-- ---- rows that are given away one after another
+
+pub joined_push : (graph : List CommitRow) (rows : List CommitRow) (r : CommitRow) → joined graph (rows ++ r ∷ []) ≡ with_row (joined graph rows) r
+joined_push graph [] r = refl
+joined_push graph (x ∷ rows) r = joined_push (with_row graph x) rows r
+
+module _ (graph : List CommitRow) (most : ℕ) (rows front : List CommitRow) (r : CommitRow) (rest : List CommitRow) (place : ℕ) (split : front ++ r ∷ rest ≡ rows) (count : place ≡ length front)
+    (so_far : List CommitRow) (is : so_far ≡ joined graph front) (before : (k : ℕ) → k < place → fault_at graph most rows k ≡ None) where
+  place_lt : place < length rows
+  place_lt = omega (arith, ap (λ (xs : List CommitRow). length xs) split, length-append front (r ∷ rest))
+
+  place_at : r ≡ get_or rows place r
+  place_at = sym (ap (λ (xs : List CommitRow). get_or xs place r) (sym split) ∙ get_or_at front r rest r place (sym count))
+
+  place_is : so_far ≡ joined graph (take place rows)
+  place_is = is ∙ ap (joined graph) (sym (ap (take place) (sym split) ∙ take_at front (r ∷ rest) place (sym count)))
+
+  pub given_sound : fault_of so_far most place r ≡ None → (k : ℕ) → k < place + 1 → fault_at graph most rows k ≡ None
+  given_sound none = still_sound graph most rows place r place_lt place_at so_far place_is none before
+
+  pub given_fault : (e : GraphFault) → fault_of so_far most place r ≡ Some e → IsFirstFault graph most rows e
+  given_fault e fault = first_fault graph most rows place r place_lt place_at so_far e place_is fault before

@@ -1,4 +1,4 @@
-ghost use Rattle.std.specs.Prelude.{◌≡◌, Ok, Err, ◌≢◌, ◌+◌, ◌<◌, ◌≤◌, not, true, length, map, All, Some, None, IsTrue, IfOk, OnOk, IfErr};
+ghost use Rattle.std.specs.Prelude.{◌≡◌, Ok, Err, ◌≢◌, [], ◌+◌, ◌<◌, ◌≤◌, not, true, length, map, All, Some, None, IsTrue, IfOk, OnOk, IfErr};
 ghost use Rattle.std.specs.List.{list_all};
 ghost use Rattle.osv_prim.specs.Graphs.{has, id_at, with_row, joined, IsLegal};
 ghost use Rattle.commit_graph.specs.Extended.{extended};
@@ -53,6 +53,53 @@ impl Graph {
         for (place, row) in rows.iter().enumerate() {
             graph = joined_by(alloc, graph, row, place as u64, most, &mut numbers, steps)?;
         }
+        // Its contract tells that the graph is legal.
+        let _ = graph.len();
+        Ok(graph)
+    }
+
+    /// The graph of rows, as `empty` and then `extend` give it, without a copy of the rows.
+    pub fn of_rows<L: Ledger>(
+        alloc: Global,
+        rows: List<CommitRow>,
+        most: u32,
+        steps: &mut Steps<L>,
+    ) -> Result<Graph, GraphFault>
+        ensures joined { IfOk result (λ g. g ≡ joined [] rows) }
+        ensures sound { OnOk result (IsSound [] most rows) }
+        ensures fault { IfErr result (λ e. e ≢ GraphFault.Memory → IsFirstFault [] most rows e) }
+        ensures legal { IfOk result IsLegal }
+
+        // The same as a function of the rows.
+        ensures value { IfOk result (λ g. extended [] most rows ≡ Ok g) }
+        ensures refused { IfErr result (λ e. e ≢ GraphFault.Memory → extended [] most rows ≡ Err e) }
+        ensures steps { steps.new.graph ≤ steps.old.graph + length rows }
+        ensures records { steps.new.record_count ≡ steps.old.record_count }
+    {
+        Graph::of_each(alloc, rows, most, steps)
+    }
+
+    fn of_each<L: Ledger>(
+        alloc: Global,
+        rows: List<CommitRow>,
+        most: u32,
+        steps: &mut Steps<L>,
+    ) -> Result<Graph, GraphFault>
+        ensures joined { IfOk result (λ g. g ≡ joined [] rows) }
+        ensures sound { OnOk result (IsSound [] most rows) }
+        ensures fault { IfErr result (λ e. e ≢ GraphFault.Memory → IsFirstFault [] most rows e) }
+        ensures legal { IfOk result IsLegal }
+        ensures steps { steps.new.graph ≤ steps.old.graph + length rows }
+        ensures records { steps.new.record_count ≡ steps.old.record_count }
+    {
+        let mut graph = Graph::with_capacity(alloc, rows.len())?;
+        let mut numbers = Vec::new(alloc);
+        let mut place = 0u64;
+        for row in rows.into_vec() {
+            graph = joined_with(graph, row, place, most, &mut numbers, steps)?;
+            place += 1;
+        }
+        // Its contract tells that the graph is legal.
         let _ = graph.len();
         Ok(graph)
     }
@@ -114,6 +161,28 @@ fn joined_by<L: Ledger>(
 {
     if is_new(&graph, row, place, most, numbers, steps)? {
         let row = copy_of(alloc, row)?;
+        Ok(graph.with_row(row, numbers.as_slice())?)
+    } else {
+        Ok(graph)
+    }
+}
+
+// As `joined_by`, with a row that is given away.
+fn joined_with<L: Ledger>(
+    graph: Graph,
+    row: CommitRow,
+    place: u64,
+    most: u32,
+    numbers: &mut Vec<u32>,
+    steps: &mut Steps<L>,
+) -> Result<Graph, GraphFault>
+    ensures joined { IfOk result (λ g. g ≡ with_row graph row) }
+    ensures sound { OnOk result (fault_of graph most place row ≡ None) }
+    ensures fault { IfErr result (λ e. e ≢ GraphFault.Memory → fault_of graph most place row ≡ Some e) }
+    ensures steps { steps.new.graph ≤ steps.old.graph + 1 }
+    ensures records { steps.new.record_count ≡ steps.old.record_count }
+{
+    if is_new(&graph, &row, place, most, numbers, steps)? {
         Ok(graph.with_row(row, numbers.as_slice())?)
     } else {
         Ok(graph)

@@ -6,7 +6,7 @@ use Rattle.std.proofs.lemmas.List.{take-append-drop, get_or_default, get_or-take
 use Rattle.std.proofs.lemmas.List.Splits.{slice_split_none, slice_split_at}
 use Rattle.osv_service.specs.Lines.{lines, numbered, has_bytes, CutsLine}
 
-no_true : (b : Bool) → (b ≡ true → ⊥) → b ≡ false
+pub no_true : (b : Bool) → (b ≡ true → ⊥) → b ≡ false
 no_true true h = absurd (h refl)
 no_true false h = refl
 

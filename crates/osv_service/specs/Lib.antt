@@ -2,6 +2,8 @@ pub mod Input
 pub mod Lines
 pub mod Cursor
 pub mod Words
+pub mod Repo
+pub mod Commits
 pub mod Asked
 pub mod Checked
 pub mod Run

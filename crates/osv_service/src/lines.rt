@@ -50,8 +50,8 @@ impl<'a> Lines<'a> {
     }
 }
 
-// What stands before the first line end, and what stands after it.
-fn cut_line(text: &[u8]) -> (&[u8], &[u8])
+/// What stands before the first line end, and what stands after it.
+pub fn cut_line(text: &[u8]) -> (&[u8], &[u8])
     requires { 0 < length text.now }
     ensures cut { CutsLine text.now result.0.now result.1.now }
     ensures shorter { length result.1.now < length text.now }

@@ -5,19 +5,25 @@ mod answer;
 mod ask;
 mod check;
 mod command;
+mod commits;
 mod input;
 mod lines;
 mod matched;
 mod number;
 mod program;
+mod repo;
 mod said;
 #[cfg(test)]
 mod tests;
 mod words;
 
-use edge_io::{ReadEnd, WriteEnd};
+ghost use Rattle.std.specs.Prelude.{◌≡◌, ◌≤◌};
+
+use edge_io::{ReadEnd, Sink, Source, WriteEnd};
+use osv_prim::{Ledger, Steps, Unkept};
 pub use program::run;
 use std::process::ExitCode;
+use std::sync::ledger::Blank;
 use std::{env, io};
 
 // The words after the program's name.
@@ -27,6 +33,22 @@ fn words_of(rt: &HostRuntime) -> io::Result<Vec<String>> {
         words.push(word)?;
     }
     Ok(words)
+}
+
+// A run whose steps are counted in a new ledger.
+fn with_steps<S: Source, K: Sink, L: Ledger>(
+    rt: &HostRuntime,
+    words: &[String],
+    source: &mut S,
+    sink: &mut K,
+    blank: Blank,
+) -> u8
+    requires name { blank.name ≡ L.name }
+    requires parts { blank.parts ≡ L.parts }
+    requires two { 2 ≤ blank.parts }
+{
+    let mut steps = Steps::<L>::start(rt, blank);
+    run(rt.alloc(), words, source, sink, &mut steps)
 }
 
 fn main(rt: HostRuntime) -> ExitCode {
@@ -42,5 +64,12 @@ fn main(rt: HostRuntime) -> ExitCode {
     };
     let mut source = ReadEnd::new(rt.reader());
     let mut sink = WriteEnd::new(io::writer(&rt));
-    ExitCode::from(run(rt.alloc(), words.as_slice(), &mut source, &mut sink))
+    let status = with_steps::<_, _, Unkept>(
+        &rt,
+        words.as_slice(),
+        &mut source,
+        &mut sink,
+        Blank::new(2),
+    );
+    ExitCode::from(status)
 }

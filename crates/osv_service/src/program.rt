@@ -12,7 +12,7 @@ use crate::command::{Command, Task};
 use crate::input::{Input, ReadStop, read_all};
 use crate::words::command;
 use edge_io::{Sink, Source, write_whole};
-use osv_prim::{Bytes, Memory};
+use osv_prim::{Bytes, Ledger, Memory, Steps};
 use std::alloc::{AllocError, Global};
 
 pub(crate) const USAGE: &str =
@@ -21,7 +21,13 @@ pub(crate) const USAGE: &str =
 /// Does what the words say over a source and a sink, and answers the status: 0 where the whole input
 /// was read and answered, 2 where the words are no command, 3 where the source failed, 4 where the
 /// sink failed, 5 where the input is refused, and 6 for want of memory.
-pub fn run<S: Source, K: Sink>(alloc: Global, words: &[String], source: &mut S, sink: &mut K) -> u8
+pub fn run<S: Source, K: Sink, L: Ledger>(
+    alloc: Global,
+    words: &[String],
+    source: &mut S,
+    sink: &mut K,
+    steps: &mut Steps<L>,
+) -> u8
     ensures declines { command (map (λ w. string_bytes w) words.now) ≡ None
         → Declines result (K.held sink.old) (K.held sink.new) (K.faults sink.old) (K.faults sink.new) }
     ensures answers { (c : _) → command (map (λ w. string_bytes w) words.now) ≡ Some c
@@ -31,7 +37,7 @@ pub fn run<S: Source, K: Sink>(alloc: Global, words: &[String], source: &mut S, 
     match command(alloc, words) {
         Err(_) => 6,
         Ok(None) => decline(sink),
-        Ok(Some(command)) => answered(alloc, &command, source, sink),
+        Ok(Some(command)) => answered(alloc, &command, source, sink, steps),
     }
 }
 
@@ -65,13 +71,18 @@ fn write_answer<K: Sink>(sink: &mut K, answer: &Answer) -> u8
     write_out(sink, answer.output.as_slice(), answer.status)
 }
 
-fn done(alloc: Global, task: &Task, input: &[u8]) -> Result<Answer, Memory>
+fn done<L: Ledger>(
+    alloc: Global,
+    task: &Task,
+    input: &[u8],
+    steps: &mut Steps<L>,
+) -> Result<Answer, Memory>
     requires { length input.now ≤ most_input }
     ensures answer { IfOk result (λ a. a ≡ done task.now input.now) }
     ensures known { IfOk result (λ a. (a.status ≡ 0) ⊎ (a.status ≡ 5)) }
 {
     match task {
-        Task::Ask(subject) => asked(alloc, subject, input),
+        Task::Ask(subject) => asked(alloc, subject, input, steps),
         Task::Check => checked(alloc, input),
     }
 }
@@ -92,23 +103,29 @@ fn too_large_text(alloc: Global, limit: u64) -> Result<String, AllocError>
     format!(in alloc; "refused input larger than {limit}\n")
 }
 
-fn answer_to(alloc: Global, command: &Command, input: &Input) -> Result<Answer, Memory>
+fn answer_to<L: Ledger>(
+    alloc: Global,
+    command: &Command,
+    input: &Input,
+    steps: &mut Steps<L>,
+) -> Result<Answer, Memory>
     requires limit { command.now.limit ≤ most_input }
     requires within { IsWithin command.now.limit input.now }
     ensures answer { IfOk result (AnswersTo command.now input.now) }
     ensures known { IfOk result (λ a. (a.status ≡ 0) ⊎ (a.status ≡ 5)) }
 {
     match input {
-        Input::Whole(bytes) => done(alloc, &command.task, bytes.as_slice()),
+        Input::Whole(bytes) => done(alloc, &command.task, bytes.as_slice(), steps),
         Input::TooLarge => too_large(alloc, command.limit),
     }
 }
 
-fn answered<S: Source, K: Sink>(
+fn answered<S: Source, K: Sink, L: Ledger>(
     alloc: Global,
     command: &Command,
     source: &mut S,
     sink: &mut K,
+    steps: &mut Steps<L>,
 ) -> u8
     requires { command.now.limit ≤ most_input }
     ensures { Answers (answer_of command.now) result (S.left source.old) (S.left source.new) (K.held sink.old) (K.held sink.new)
@@ -119,7 +136,7 @@ fn answered<S: Source, K: Sink>(
         Err(ReadStop::Source) => return 3,
         Err(ReadStop::Memory) => return 6,
     };
-    match answer_to(alloc, command, &input) {
+    match answer_to(alloc, command, &input, steps) {
         Ok(answer) => write_answer(sink, &answer),
         Err(_) => 6,
     }

@@ -1,7 +1,9 @@
 //! Runs over sources and sinks in memory.
 
-use crate::run;
+use crate::with_steps;
 use edge_io::{MemSink, MemSource};
+use osv_prim::Unkept;
+use std::sync::ledger::Blank;
 use std::test::Fail;
 
 const ASK: [&str; 4] = ["ask", "npm", "p", "1.0.0"];
@@ -52,7 +54,13 @@ fn run_over(
     }
     let mut source = MemSource::new(input.as_bytes().to_vec(rt.alloc())?, reads, most);
     let mut sink = MemSink::new(rt.alloc(), writes, most);
-    let status = run(rt.alloc(), strings.as_slice(), &mut source, &mut sink);
+    let status = with_steps::<_, _, Unkept>(
+        rt,
+        strings.as_slice(),
+        &mut source,
+        &mut sink,
+        Blank::new(2),
+    );
     Ok((status, sink.bytes() == wanted))
 }
 
