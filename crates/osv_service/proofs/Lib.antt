@@ -7,3 +7,4 @@ pub mod Numerals
 pub mod FoundRows
 pub mod Walked
 pub mod Matching
+pub mod Finding

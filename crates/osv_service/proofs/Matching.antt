@@ -75,6 +75,7 @@ value_step words rest word s o rows f h e = dashed (is_dashed word) refl e
         let Q : Said → Type 0 = λ (t : Said). said_after (heard t) words ≡ Some f in
         goes_on word words f (walk_at (awaits o rows)) (at (held rows (one (id_of o) word)) (calm false) false) (turn_value o word rows p) (walked_value o word rows p)
         (rest (set_at o word s) (free false rows (one (id_of o) word)) f (ready_value o word s rows h there.0) (subst Q (sym there.1) e))
+
     dashed : (b : Bool) → is_dashed word ≡ b → option_and_then (λ next. said_after next words) (if b then None else option_map heard (give (name_of o) word s)) ≡ Some f
         → Goes (word ∷ words) f (walk_at (awaits o rows))
     dashed true x e = absurd cc
@@ -88,6 +89,7 @@ known (v ∷ vs) word s f e = dashed (is_dashed v) e
     given : (x : Option Said) → give word v s ≡ x → option_and_then (λ next. said_after next vs) (option_map heard x) ≡ Some f → (o : Bool) × (word ≡ name_of o)
     given None x e = absurd cc
     given (Some t) x e = ((gives word v s t x).at, (gives word v s t x).named)
+
     dashed : (b : Bool) → option_and_then (λ next. said_after next vs) (if b then None else option_map heard (give word v s)) ≡ Some f → (o : Bool) × (word ≡ name_of o)
     dashed true e = absurd cc
     dashed false e = given (give word v s) refl e
@@ -110,6 +112,7 @@ option_step words rest word s b rows pending f r e = valued (list_any is_equals 
         goes_on word words f (walk_at (free b rows pending)) (at (held (used (rule_at g.at) (v ∷ []) (now rows pending)) None) (calm false) false)
         (turn_given g.at b word v rows pending is.is_end long r.passes none) (walked_given g.at b word v rows pending is.is_end long)
         (rest (set_at g.at v s) (free false (used (rule_at g.at) (v ∷ []) (now rows pending)) None) f (ready_given g.at v s (now rows pending) r.holds g.free) (subst Q (sym g.set) e))
+
     valued : (x : Bool) → list_any is_equals word ≡ x
         → option_and_then (λ next. said_after next words) (option_map_or (λ value. option_map heard (give (before_first is_equals word) value s)) (if x then Some (after_first is_equals word) else None) (Some (record { said = s; waiting = Some word }))) ≡ Some f
         → Goes (word ∷ words) f (walk_at (free b rows pending))
@@ -136,6 +139,7 @@ free_step words rest word s b rows pending f r e = ends (bytes_eq word (codes "-
         goes_on word words f (walk_at (free b rows pending)) (at (held (now rows pending) (one (codes "words") word)) (calm true) false)
         (turn_plain b false word rows pending (inl x) r.passes) (walked_plain b false word rows pending (inl x))
         (rest (and_words (word ∷ []) s) (free true (now rows pending) (one (codes "words") word)) f (ready_plain word s rows pending r) e)
+
     ends : (x : Bool) → bytes_eq word (codes "--") ≡ x → (if x then Some (and_words words s) else option_and_then (λ next. said_after next words) (hear_free word s)) ≡ Some f
         → Goes (word ∷ words) f (walk_at (free b rows pending))
     ends true x e =
@@ -177,8 +181,7 @@ taken words f e =
     let start : Ready nothing_heard.said (held [] None) = record { passes = refl; holds = record { input = refl; commit = refl; ordinary = refl } } in
     let g = goes words nothing_heard.said (free false [] None) f start (few_same (said_after nothing_heard words) f e) in
     let P : List Row → Type 0 = Holds f in
-    let end : Held = (fold (walked known_rules []) (at (held [] None) (calm false) false) words).held in
-    (
+    let end : Held = (fold (walked known_rules []) (at (held [] None) (calm false) false) words).held in (
       leaf_takes (built reader) nothing_held words refl (ap₂ (λ (x y : Bool). x && (y && true)) g.passes g.ready.passes),
       subst P (sym (no_defaults (settled_rows known_rules end.pending end.rows))) g.ready.holds,
     )

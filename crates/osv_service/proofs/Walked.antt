@@ -76,9 +76,11 @@ plain_one c = record { is_end = end (bytes_eq (c ∷ []) (codes "--")) refl; lon
     end : (b : Bool) → bytes_eq (c ∷ []) (codes "--") ≡ b → b ≡ false
     end false e = refl
     end true e = let two : c ∷ [] ≡ codes "--" = (bytes_eq-Decides (c ∷ []) (codes "--")).0 e in let none : tail_of (c ∷ []) ≡ 45 ∷ [] = ap tail_of two in absurd cc
+
     long : (x : Bool) → option_and_then long_of_rest (option_and_then (strip_byte 45) (if x then Some [] else None)) ≡ None
     long true = refl
     long false = refl
+
     short : (x : Bool) → option_and_then short_of_rest (if x then Some [] else None) ≡ None
     short true = refl
     short false = refl
@@ -160,8 +162,7 @@ trail (word ∷ words) s b rows pending r =
     let rest = trail words (and_words (word ∷ []) s) true (now rows pending) (one (codes "words") word) (ready_plain word s rows pending r) in
     let end : Held = (fold (walked known_rules []) (at (held (now rows pending) (one (codes "words") word)) (calm true) true) words).held in
     let P : List Text → Type 0 = λ x. Ready (record s { ordinary = x }) end in
-    let Q : Walk → Type 0 = λ w. Ready (and_words (word ∷ words) s) (fold (walked known_rules []) w words).held in
-    (
+    let Q : Walk → Type 0 = λ w. Ready (and_words (word ∷ words) s) (fold (walked known_rules []) w words).held in (
       ap₂ (λ (p : Bool) (w : Walk). p && walk_passes shape [] w words) (turn_plain b true word rows pending (inr refl) r.passes) step ∙ rest.0,
       subst Q (sym step) (subst P (append_assoc s.ordinary (word ∷ []) words) rest.1),
     )

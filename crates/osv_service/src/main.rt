@@ -10,6 +10,7 @@ mod input;
 mod lines;
 mod matched;
 mod number;
+mod plain;
 mod program;
 mod repo;
 mod said;
