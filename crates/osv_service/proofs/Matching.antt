@@ -1,18 +1,17 @@
 -- What `clap` makes of all the words: it takes those that are in the grammar, and finds in them what they say.
-use Rattle.std.proofs.Common.{◌≡◌, ℕ, Bool, true, false, not, ◌&&◌, ◌||◌, List, [], ◌∷◌, ◌++◌, length, Option, Some, None, is_some, option_map, option_and_then, if◌then◌else◌, refl, sym, ap, ap₂, ◌∙◌, inl, inr, cond, codes, subst}
+use Rattle.std.proofs.Common.{◌≡◌, Bool, true, false, ◌&&◌, List, [], ◌∷◌, length, Option, Some, None, option_map, option_and_then, if◌then◌else◌, refl, sym, ap, ap₂, ◌∙◌, inl, codes, subst}
 use Rattle.std.specs.Prelude.{unwrap_or, fold, nat_le}
 use Rattle.std.specs.List.{list_any, before_first, after_first}
 use Rattle.std.specs.Option.{option_map_or}
 use Rattle.std.specs.Str.{bytes_eq}
-use Rattle.std.proofs.lemmas.Bool.{cases_Bool}
 use Rattle.clap.specs.Lexer.{long_of}
 use Rattle.clap.specs.Simple.{built, matches_of}
-use Rattle.clap.specs.Takes.{takes, walk_passes, settle_passes, turn_passes}
-use Rattle.clap.specs.Walk.{Held, Row, Rule, Text, Walk, finished, has_row, nothing_held, option, rows_after, settled_rows, used, walked, with_default}
+use Rattle.clap.specs.Takes.{takes, walk_passes, turn_passes}
+use Rattle.clap.specs.Walk.{Held, Row, Text, Walk, has_row, nothing_held, option, settled_rows, used, walked, with_default}
 use Rattle.clap.proofs.TakesLemmas.{leaf_takes}
-use Rattle.osv_service.specs.Said.{Said, Heard, and_words, few, give, hear, hear_free, hear_option, heard, is_dashed, is_equals, nothing_heard, said, said_after, value_in}
+use Rattle.osv_service.specs.Said.{Said, and_words, few, give, hear_free, hear_option, heard, is_dashed, is_equals, nothing_heard, said, said_after}
 use Rattle.osv_service.specs.Reader.{Holds, reader}
-use Rattle.osv_service.proofs.Walked.{Gives, IsOption, Ready, at, calm, gives, held, id_of, known_rules, name_of, no_equals_before, none_there, now, one, option_is, plain_word_is, ready_given, ready_plain, ready_value, rule_at, said_at, set_at, shape, trail, turn_end, turn_given, turn_named, turn_plain, turn_value, walked_end, walked_given, walked_named, walked_plain, walked_value, words_as}
+use Rattle.osv_service.proofs.Walked.{Ready, at, calm, gives, held, id_of, known_rules, name_of, no_equals_before, none_there, now, one, option_is, plain_word_is, ready_given, ready_plain, ready_value, rule_at, said_at, set_at, shape, trail, turn_end, turn_given, turn_named, turn_plain, turn_value, walked_end, walked_given, walked_named, walked_plain, walked_value, words_as}
 
 -- where the walk stands: nothing waits, or an option waits for its value
 data State : Type 0 where

@@ -1,18 +1,17 @@
 -- What `clap` makes of one word more.
-use Rattle.std.proofs.Common.{rules, ◌≡◌, ◌⊎◌, ℕ, Bool, true, false, not, ◌&&◌, ◌||◌, List, [], ◌∷◌, ◌++◌, length, take, drop, suc, ◌+◌, arith, Option, Some, None, is_some, option_map, option_and_then, if◌then◌else◌, refl, sym, ap, ap₂, ◌∙◌, inl, inr, cond, codes, subst}
-use Rattle.std.specs.Prelude.{find, unwrap_or, fold, ◌==◌}
+use Rattle.std.proofs.Common.{◌≡◌, ◌⊎◌, ℕ, Bool, true, false, not, ◌&&◌, ◌||◌, List, [], ◌∷◌, ◌++◌, take, drop, suc, ◌+◌, arith, Option, Some, None, is_some, option_map, option_and_then, if◌then◌else◌, refl, sym, ap, ap₂, ◌∙◌, inl, inr, cond, codes, subst}
+use Rattle.std.specs.Prelude.{unwrap_or, fold, ◌==◌}
 use Rattle.std.specs.List.{list_any, before_first, after_first, position_or_len}
 use Rattle.std.specs.Option.{option_map_or}
 use Rattle.std.specs.Str.{bytes_eq}
-use Rattle.std.proofs.lemmas.Bool.{cases_Bool}
 use Rattle.std.proofs.lemmas.List.{append-nil, append_assoc}
 use Rattle.clap.specs.Lexer.{long_of, long_of_rest, short_of, short_of_rest, strip_byte}
 use Rattle.std.proofs.lemmas.Slice.Eq.{bytes_eq-Decides}
 use Rattle.clap.specs.Simple.{Shape, built, is_simple}
-use Rattle.clap.specs.Takes.{bundle_passes, flag_word_passes, positional_passes, react_passes, set_passes, settle_passes, step_passes, turn_passes, use_passes, walk_passes, word_passes}
-use Rattle.clap.specs.Walk.{after_flag, arg_by_index, long_met, long_or_other, long_word, short_or_plain, plain_word, reading_by, Held, Row, Rule, Step, Text, Waiting, Walk, after_step, all_of, arg_by_id, arg_by_long, has_row, idle, is_pending, next, option, positional, positional_held, pushed, settled, settled_rows, takes_several, trailing, used, value, walked, with_values, without, word_met}
+use Rattle.clap.specs.Takes.{bundle_passes, flag_word_passes, settle_passes, step_passes, turn_passes, use_passes, walk_passes, word_passes}
+use Rattle.clap.specs.Walk.{arg_by_index, long_or_other, short_or_plain, reading_by, Held, Row, Rule, Step, Text, Waiting, Walk, after_step, all_of, arg_by_id, idle, is_pending, next, option, positional, pushed, settled, settled_rows, trailing, used, value, walked, with_values, word_met}
 use Rattle.clap.specs.declared.parser.matches.ValueSource.TheVariants.{CommandLine}
-use Rattle.osv_service.specs.Said.{Said, Heard, and_words, give, hear, is_commit, is_dashed, is_equals, is_input, value_in}
+use Rattle.osv_service.specs.Said.{Said, and_words, give, is_commit, is_dashed, is_equals, is_input, value_in}
 use Rattle.osv_service.specs.Reader.{Holds, input_rule, reader, words_rule}
 use Rattle.osv_service.proofs.FoundRows.{all_gained, all_kept, unused}
 

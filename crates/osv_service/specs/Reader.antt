@@ -1,5 +1,5 @@
 -- The command that `clap` reads the words behind the command's by, and what its matches hold (our own).
-use Rattle.std.specs.Prelude.{◌≡◌, List, [], ◌∷◌, Option, Some, option_map, unwrap_or, true, codes}
+use Rattle.std.specs.Prelude.{◌≡◌, List, [], ◌∷◌, Some, option_map, unwrap_or, true, codes}
 use Rattle.clap.specs.Words.{App, Row, Rule, all_of, new_app, new_rule, with_rule}
 use Rattle.clap.specs.Simple.{on_top}
 use Rattle.clap.specs.declared.builder.action.ArgAction.TheVariants.{Set, Append}

@@ -1,4 +1,4 @@
-use Rattle.std.proofs.Common.{ap, sym, subst, ◌≡◌, ◌∙◌, ◌≤◌, List, [], Option, option_map, length, codes}
+use Rattle.std.proofs.Common.{ap, sym, subst, ◌∙◌, ◌≤◌, List, [], Option, option_map, length, codes}
 use Rattle.std.specs.Prelude.{unwrap_or}
 use Rattle.clap.specs.Words.{Text, found_of, rows_of}
 use Rattle.clap.proofs.WalkLemmas.{first_value-rows, raw_values-rows}

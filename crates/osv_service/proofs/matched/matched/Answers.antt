@@ -1,4 +1,4 @@
-use Rattle.std.proofs.Common.{ap, sym, subst, ◌≡◌, ◌∙◌, List, map, String, Global}
+use Rattle.std.proofs.Common.{ap, sym, subst, ◌∙◌, List, map, String, Global}
 use Rattle.std.specs.Prelude.{string_bytes}
 use Rattle.std.proofs.lemmas.Result.{IfErr-weaker, IfOk-weaker}
 use Rattle.clap.specs.Words.{App, Row, Text, is_simple, matches_of, takes}

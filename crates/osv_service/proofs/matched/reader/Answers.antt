@@ -1,10 +1,10 @@
-use Rattle.std.proofs.Common.{rules, ap, ap₂, refl, codes, true, ◌≡◌, ◌∙◌}
+use Rattle.std.proofs.Common.{rules, ap, ap₂, codes, true, ◌≡◌, ◌∙◌}
 use Rattle.std.proofs.lemmas.Result.{IfOk-weaker}
-use Rattle.clap.specs.Words.{App, app_of, rule_of, with_rule, new_app}
+use Rattle.clap.specs.Words.{app_of, rule_of, with_rule, new_app}
 use Rattle.clap.specs.Simple.{app_of_fields, on_top}
 use Rattle.clap.specs.declared.builder.command.Command.{Command}
 use Rattle.clap.specs.declared.builder.command.Command.TheOpen.{Command-F}
-use Rattle.osv_service.specs.Reader.{commit_rule, input_rule, reader, words_rule}
+use Rattle.osv_service.specs.Reader.{commit_rule, input_rule, words_rule}
 use Rattle.osv_service.proofs.matched.reader.Goals as goal
 
 pub returns : goal.returns
