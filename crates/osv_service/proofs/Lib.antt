@@ -4,3 +4,7 @@ pub mod Reading
 pub mod Unlines
 pub mod Heard
 pub mod Numerals
+pub mod FoundRows
+pub mod Walked
+pub mod Matching
+pub mod Finding

@@ -8,3 +8,4 @@ pub mod Asked
 pub mod Checked
 pub mod Run
 pub mod Said
+pub mod Reader

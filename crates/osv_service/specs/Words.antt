@@ -11,6 +11,9 @@ use Rattle.osv_prim.specs.Packages.{normal_name}
 use Rattle.osv_service.specs.declared.command.Command.{Command}
 use Rattle.osv_service.specs.declared.command.Task.{Task}
 use Rattle.osv_service.specs.declared.command.Task.TheVariants.{Ask, Check}
+use Rattle.osv_service.specs.declared.plain.Plain.{Plain}
+use Rattle.osv_service.specs.declared.plain.PlainTask.{PlainTask}
+use Rattle.osv_service.specs.declared.plain.PlainTask.TheVariants.{AskPackage, AskCommit, AskCommitIn, CheckLines}
 use Rattle.osv_service.specs.Said.{Said, said}
 
 -- the most bytes of input
@@ -30,12 +33,16 @@ number_in least most text =
 abbrev pub limit_of : Option (List ℕ) → Option ℕ
 limit_of input = option_map_or (number_in 1 most_input) input (Some most_input)
 
-abbrev pub is_full : List ℕ → Bool
-is_full word = nat_lt 0 (length word)
+-- neither is empty
+abbrev pub are_full : List ℕ → List ℕ → Bool
+are_full e n = nat_lt 0 (length e) && nat_lt 0 (length n)
 
--- the package that an ecosystem and a name are, where neither is empty
+abbrev pub key : List ℕ → List ℕ → PackageKey
+key e n = record { ecosystem = e; name = normal_name e n }
+
+-- the package of an ecosystem and a name that are not empty
 abbrev pub package_of : List ℕ → List ℕ → Option PackageKey
-package_of e n = if is_full e && is_full n then Some (record { ecosystem = e; name = normal_name e n }) else None
+package_of e n = if are_full e n then Some (key e n) else None
 
 -- ECOSYSTEM NAME [VERSION]
 abbrev pub package_asked : List (List ℕ) → Option Subject
@@ -70,3 +77,14 @@ command_of first s = option_and_then (λ limit. option_map (λ task. record { li
 abbrev pub command : List (List ℕ) → Option Command
 command [] = None
 command (first ∷ behind) = option_and_then (command_of first) (said behind)
+
+-- ---- the same, of a command whose words are borrowed
+
+abbrev pub task_in : PlainTask → Task
+task_in (AskPackage e n v) = Ask (Package (key e.now n.now) (option_map (λ w. w.now) v))
+task_in (AskCommit oid) = Ask (Commit oid)
+task_in (AskCommitIn oid e n) = Ask (CommitIn oid (key e.now n.now))
+task_in CheckLines = Check
+
+abbrev pub command_in : Plain → Command
+command_in p = record { limit = p.limit; task = task_in p.task }
