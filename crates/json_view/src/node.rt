@@ -50,7 +50,10 @@ impl<'t, 'a> Node<'t, 'a> {
         if let json::Node::Null = node_at(self.tape, at) {
             return None;
         }
-        Some(Node { tape: self.tape, at })
+        Some(Node {
+            tape: self.tape,
+            at,
+        })
     }
 
     /// The text that it is.
@@ -119,7 +122,10 @@ impl<'t, 'a> Elements<'t, 'a> {
         let Some(here) = take_item(tape, &mut at) else {
             return None;
         };
-        *self = Elements { tape: Some(tape), at };
+        *self = Elements {
+            tape: Some(tape),
+            at,
+        };
         Some(Node { tape, at: here })
     }
 }

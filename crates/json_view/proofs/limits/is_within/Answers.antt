@@ -1,4 +1,4 @@
-use Rattle.std.proofs.Common.{◌≡◌, ◌+◌, ◌∷◌, drop, get_or, map, true, false, refl, sym, ap, ◌∙◌, arith, true≢false}
+use Rattle.std.proofs.Common.{◌≡◌, ◌+◌, drop, get_or, map, true, false, refl, sym, ap, ◌∙◌, arith, true≢false}
 use Rattle.std.proofs.lemmas.List.{drop_all, length-map}
 use Rattle.json.specs.Tape.{node_token}
 use Rattle.json.specs.declared.tape.Node.TheVariants.{Object}

@@ -1,7 +1,7 @@
 use Rattle.std.proofs.Common.{◌≡◌, Bool, true, false, cond, drop, Option, option_map, Some, None, refl, sym, ap, ◌∙◌, subst, arith}
 use Rattle.std.specs.Str.{bytes_eq}
 use Rattle.json.specs.Json.{Json, no_members}
-use Rattle.json.specs.Find.{NextMember, Finds, later_or, get_member}
+use Rattle.json.specs.Find.{Finds, later_or, get_member}
 use Rattle.json_view.proofs.walk.last_named.Goals as goal
 
 or_none : (o : Option Json) → o ≡ later_or o None

@@ -1,4 +1,4 @@
-use Rattle.std.proofs.Common.{◌<◌, length, subst, arith, lt_of_not-le}
+use Rattle.std.proofs.Common.{subst, arith}
 use Rattle.std.proofs.lemmas.List.{drop_all}
 use Rattle.json.specs.Find.{BeginsWith}
 use Rattle.json.specs.declared.tape.Node.TheVariants.{Object}

@@ -19,7 +19,7 @@ returns-in-EndArray-clause-value c js given =
     let all = c.args.tape.now in
     let i = c.args.at.now in
     let closing : drop i all ≡ end_array ∷ drop (i + 1) all =
-        token_here all c.nodes-nodes.result.now i (Object 0) c.nodes-nodes.ensures.tokens (omega arith) ∙ ap (λ n. node_token n ∷ drop (i + 1) all) c.in-EndArray.is in
+    token_here all c.nodes-nodes.result.now i (Object 0) c.nodes-nodes.ensures.tokens (omega arith) ∙ ap (λ n. node_token n ∷ drop (i + 1) all) c.in-EndArray.is in
     items_close _ js (subst (λ ts. InItems ts js) closing given)
 
 pub returns : goal.returns
@@ -29,9 +29,9 @@ returns c =
     let i = c.args.at.now in
     record {
       value = λ js given.
-        let going = ap after_end_array (token_here all ns i (Object 0) c.nodes-nodes.ensures.tokens (omega arith)) ∙ no_close (get_or ns i (Object 0)) _ (λ e. grind arith) in
-        let f = items_go_on (drop i all) js going given in
-        (f.1, f.3, f.5, (f.0, f.2, f.4), subst (λ ts. InItems ts f.3) (c.after.ensures.value f.0 f.1 f.2 f.4) f.6);
+          let going = ap after_end_array (token_here all ns i (Object 0) c.nodes-nodes.ensures.tokens (omega arith)) ∙ no_close (get_or ns i (Object 0)) _ (λ e. grind arith) in
+          let f = items_go_on (drop i all) js going given in
+          (f.1, f.3, f.5, (f.0, f.2, f.4), subst (λ ts. InItems ts f.3) (c.after.ensures.value f.0 f.1 f.2 f.4) f.6);
       later = (c.after.ensures.later, omega (arith, as_long all ns c.nodes-nodes.ensures.tokens), omega (arith, as_long all ns c.nodes-nodes.ensures.tokens));
       here = refl;
     }

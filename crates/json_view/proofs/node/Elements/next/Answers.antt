@@ -1,11 +1,9 @@
-use Rattle.std.proofs.Common.{◌≡◌, ◌∷◌, drop, is_some, true, List, Option, Some, option_map, refl, sym, ap, ap₂, ◌∙◌, subst, arith}
-use Rattle.std.specs.Borrow.{Bor}
-use Rattle.json.specs.Token.{Token, begin_array}
+use Rattle.std.proofs.Common.{◌≡◌, ◌∷◌, drop, is_some, List, sym, ap, ap₂, ◌∙◌}
+use Rattle.json.specs.Token.{begin_array}
 use Rattle.json.specs.Json as tree
-use Rattle.json.specs.Find.{NextItem}
 use Rattle.serde_json.specs.Data.{Data}
 use Rattle.json_view.specs.Json.{list_of}
-use Rattle.json_view.specs.Trees.{shown, shown_items, shown_reading, shown_elements, reading, tokens_from}
+use Rattle.json_view.specs.Trees.{shown_items, shown_reading, shown_elements, reading, tokens_from}
 use Rattle.json_view.proofs.Places.{reads, is_read, in_array, items_of, empty_array}
 use Rattle.json_view.proofs.node.Elements.next.Goals as goal
 

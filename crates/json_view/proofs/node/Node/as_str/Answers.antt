@@ -1,5 +1,4 @@
-use Rattle.std.proofs.Common.{◌∷◌, drop, ◌+◌, sym, ap, ◌∙◌, subst, arith}
-use Rattle.json.specs.Find.{BeginsWith}
+use Rattle.std.proofs.Common.{sym, ap, subst, arith}
 use Rattle.serde_json.specs.Find.{as_str}
 use Rattle.json_view.specs.Trees.{shown_reading}
 use Rattle.json_view.proofs.Places.{IsNodeAt, text_at, no_text_at}

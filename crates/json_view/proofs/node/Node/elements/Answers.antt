@@ -1,7 +1,6 @@
-use Rattle.std.proofs.Common.{◌∷◌, ◌+◌, drop, List, Some, sym, ap, ◌∙◌, subst, arith}
+use Rattle.std.proofs.Common.{◌∷◌, ◌+◌, drop, Some, sym, ap, ◌∙◌, subst, arith}
 use Rattle.json.specs.Token.{begin_array}
 use Rattle.json.specs.Json as tree
-use Rattle.serde_json.specs.Data.{Data}
 use Rattle.json_view.specs.Json.{as_list}
 use Rattle.json_view.specs.Trees.{shown_reading, shown_elements}
 use Rattle.json_view.proofs.Places.{IsNodeAt, read, reads, is_read, in_array, array_at, no_array_at}

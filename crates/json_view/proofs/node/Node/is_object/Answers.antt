@@ -1,4 +1,4 @@
-use Rattle.std.proofs.Common.{◌≡◌, IsSome, refl, sym, ap, ◌∙◌, subst, arith}
+use Rattle.std.proofs.Common.{ap, subst, arith}
 use Rattle.serde_json.specs.Find.{as_object}
 use Rattle.json_view.specs.Trees.{shown_reading}
 use Rattle.json_view.proofs.Places.{IsNodeAt, object_at, no_object_at}
