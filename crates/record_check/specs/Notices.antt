@@ -15,6 +15,7 @@ use Rattle.version_order.specs.declared.order.Order.{Order}
 use Rattle.record_check.specs.declared.notice.Notice.{Notice}
 use Rattle.record_check.specs.declared.notice.NoticeKind.{NoticeKind}
 use Rattle.record_check.specs.declared.notice.NoticeKind.TheVariants.{FixedAndLast, NoOrder, UnreadEvent, NoPackage, NothingListed}
+
 abbrev pub notice_code : NoticeKind → ℕ
 notice_code FixedAndLast = 1
 notice_code NoOrder = 2

@@ -5,23 +5,45 @@ mod ends;
 mod small;
 mod values;
 
-use std::io;
+ghost use Rattle.std.specs.Prelude.{◌≡◌, ◌≤◌};
 
-fn main(rt: HostRuntime) -> io::Result<()> {
+use osv_prim::{Ledger, Steps, Unkept};
+use std::alloc::AllocError;
+use std::io;
+use std::sync::ledger::Blank;
+
+fn answer<L: Ledger>(
+    rt: &HostRuntime,
+    line: &str,
+    steps: &mut Steps<L>,
+) -> Result<String, AllocError> {
+    let (call, rest) = line.split_once(' ').unwrap_or((line, ""));
+    match call {
+        "id" => values::id(rt.alloc(), rest),
+        "key" => values::key(rt.alloc(), rest),
+        "match" => values::matched(rt.alloc(), rest),
+        "read" => values::record(rt.alloc(), rest),
+        "hits" => values::hits_of(rt.alloc(), rest, steps),
+        "small" => small::made(rt.alloc()),
+        "ends" => ends::moved(rt.alloc()),
+        _ => String::from_str(rt.alloc(), line),
+    }
+}
+
+fn answer_all<L: Ledger>(rt: &HostRuntime, blank: Blank) -> io::Result<()>
+    requires name { blank.name ≡ L.name }
+    requires parts { blank.parts ≡ L.parts }
+    requires two { 2 ≤ blank.parts }
+{
+    let mut steps = Steps::<L>::start(rt, blank);
     for line in rt.lines(rt.alloc()) {
         let line = line?;
-        let (call, rest) = line.as_str().split_once(' ').unwrap_or((line.as_str(), ""));
-        let answer = match call {
-            "id" => values::id(rt.alloc(), rest)?,
-            "key" => values::key(rt.alloc(), rest)?,
-            "match" => values::matched(rt.alloc(), rest)?,
-            "read" => values::record(rt.alloc(), rest)?,
-            "hits" => values::hits_of(rt.alloc(), rest)?,
-            "small" => small::made(rt.alloc())?,
-            "ends" => ends::moved(rt.alloc())?,
-            _ => String::from_str(rt.alloc(), line.as_str())?,
-        };
+        let answer = answer(rt, line.as_str(), &mut steps)?;
         println!(rt; "{answer}")?;
     }
     Ok(())
+}
+
+fn main(rt: HostRuntime) -> io::Result<()> {
+    answer_all::<Unkept>(&rt, Blank::new(2))
 }

@@ -1,5 +1,5 @@
-use evaluate::{HitIds, hits, version_hit};
-use osv_prim::{Id, IdFault, Memory, PackageKey, Subject, Text};
+use evaluate::{HitIds, git_hit, hits, version_hit};
+use osv_prim::{Id, IdFault, Ledger, Memory, PackageKey, Steps, Subject, Text};
 use osv_record::{EventKind, Range, RangeKind, Record, RecordFault};
 use std::alloc::{AllocError, Global};
 use std::sync::Arc;
@@ -105,25 +105,34 @@ fn subject(alloc: Global, version: &str) -> Result<Subject, Memory> {
     Ok(Subject::Package(package, Some(Text::copy_of(alloc, version)?)))
 }
 
-fn kept(alloc: Global, texts: &str, subject: &Subject) -> Result<String, RecordFault> {
+fn kept<L: Ledger>(
+    alloc: Global,
+    texts: &str,
+    subject: &Subject,
+    steps: &mut Steps<L>,
+) -> Result<String, RecordFault> {
     let mut records = Vec::new(alloc);
     let mut ids = HitIds::new(alloc);
     let mut single = 0u64;
     for text in texts.split(' ') {
         let record = Record::read(alloc, text.as_bytes())?;
-        let Subject::Package(asked, version) = subject;
-        let version = version.as_ref().map(|text| text.as_str());
-        if version_hit(alloc, &record, asked, version).unwrap_or(false) {
+        if is_hit(alloc, &record, subject, steps) {
             single = single.saturating_add(1);
         }
         records
             .push(Arc::new(alloc, record).map_err(no_room)?)
             .map_err(no_room)?;
-        ids.import(alloc, Record::read(alloc, text.as_bytes())?, subject)
-            .map_err(no_memory)?;
+        ids.import(
+            alloc,
+            Record::read(alloc, text.as_bytes())?,
+            &[],
+            subject,
+            steps,
+        )
+        .map_err(no_memory)?;
     }
     let mut named = format!(in alloc; "{single}:").map_err(no_bytes)?;
-    for record in &hits(alloc, records.as_slice(), subject).map_err(no_memory)? {
+    for record in &hits(alloc, records.as_slice(), &[], subject, steps).map_err(no_memory)? {
         named.push(' ').map_err(no_bytes)?;
         named.push_str(record.id.as_str()).map_err(no_bytes)?;
     }
@@ -133,6 +142,23 @@ fn kept(alloc: Global, texts: &str, subject: &Subject) -> Result<String, RecordF
         named.push_str(id.as_str()).map_err(no_bytes)?;
     }
     Ok(named)
+}
+
+fn is_hit<L: Ledger>(
+    alloc: Global,
+    record: &Record,
+    subject: &Subject,
+    steps: &mut Steps<L>,
+) -> bool {
+    let hit = match subject {
+        Subject::Package(asked, Some(version)) => {
+            version_hit(alloc, record, asked, Some(version.as_str()))
+        }
+        Subject::Package(asked, None) => version_hit(alloc, record, asked, None),
+        Subject::Commit(commit) => git_hit(alloc, record, &[], commit, None, steps),
+        Subject::CommitIn(commit, asked) => git_hit(alloc, record, &[], commit, Some(asked), steps),
+    };
+    hit.unwrap_or(false)
 }
 
 fn no_memory(_refused: Memory) -> RecordFault {
@@ -148,12 +174,16 @@ fn no_room<T: Drop>(_refused: std::alloc::AllocFailed<T>) -> RecordFault {
 }
 
 /// How many of the advisories hit one by one, and the ids of the hits by both bodies, for a version.
-pub fn hits_of(alloc: Global, text: &str) -> Result<String, AllocError> {
+pub fn hits_of<L: Ledger>(
+    alloc: Global,
+    text: &str,
+    steps: &mut Steps<L>,
+) -> Result<String, AllocError> {
     let (version, texts) = text.split_once(' ').unwrap_or((text, ""));
     let Ok(subject) = subject(alloc, version) else {
         return said(alloc, "Memory");
     };
-    match kept(alloc, texts, &subject) {
+    match kept(alloc, texts, &subject, steps) {
         Ok(named) => Ok(named),
         Err(fault) => said(alloc, fault.name()),
     }
