@@ -3,7 +3,7 @@ ghost use Rattle.std.specs.List.{list_any};
 ghost use Rattle.std.specs.Str.{bytes_eq};
 ghost use Rattle.evaluate.specs.Hits.{version_hit, entry_hit, is_touched, is_in_extent};
 
-use osv_prim::{Memory, PackageKey, ReadVersion, Text};
+use osv_prim::{Memory, PackageKey, ReadVersion};
 use osv_record::{Affected, Range, Record};
 use std::alloc::Global;
 use version_order::{Order, Version, contains};
@@ -56,16 +56,10 @@ fn is_touched(
     let Some(text) = version else {
         return Ok(true);
     };
-    if is_among(text, entry.versions.as_slice()) {
+    if entry.versions.contains(text) {
         return Ok(true);
     }
     is_in_any(alloc, ecosystem, text, entry.ranges.as_slice())
-}
-
-fn is_among(text: &str, versions: &[Text]) -> bool
-    ensures { result ≡ list_any (λ v. bytes_eq text.now v) versions.now }
-{
-    versions.iter().any(|version| text == version.as_str())
 }
 
 fn is_in_any(alloc: Global, ecosystem: &str, text: &str, ranges: &[Range]) -> Result<bool, Memory>

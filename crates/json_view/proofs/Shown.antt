@@ -1,19 +1,24 @@
 -- What a tree shows beside what `serde_json` reads.
-use Rattle.std.proofs.Common.{◌≡◌, ℕ, Bool, true, false, ◌&&◌, cond, List, [], ◌∷◌, map, Option, Some, None, option_map, option_and_then, is_some, Result, Err, bytes_eq, true≢false, refl, sym, ap, subst, ◌∙◌}
+use Rattle.std.proofs.Common.{◌≡◌, ℕ, ◌≤◌, Bool, true, false, ◌&&◌, cond, List, [], ◌∷◌, Option, Some, None, option_map, option_and_then, is_some, bytes_eq, true≢false, refl, sym, ap, subst, ◌∙◌, arith, append-nil}
+use Rattle.std.specs.Prelude.{IsSome}
 use Rattle.std.specs.Str.{IsUtf8, is_utf8}
 use Rattle.std.proofs.lemmas.Str.{IsUtf8-from_is_utf8, is_utf8-from_IsUtf8}
 use Rattle.std.specs.Cmp.Lexicographic.{same_text}
 use Rattle.std.proofs.lemmas.Slice.Eq.{bytes_eq-Decides}
 use Rattle.json.specs.Json as tree
+use Rattle.json.specs.Token.{Token}
 use Rattle.json.specs.Lex.{tokens}
+use Rattle.json.specs.Tree.{json_tokens, depth}
+use Rattle.json.proofs.Found.{one_reading, not_found, Some_inj}
+use Rattle.json.proofs.Nesting.{value-depth}
+use Rattle.json.proofs.Printed.Trees.{value-json_tokens}
+use Rattle.json.proofs.Unique.Spelling.{value-json_tokens_back, tokens-document}
 use Rattle.json.specs.Find as find
-use Rattle.json.specs.Value.{value_view, items_view}
-use Rattle.json.specs.declared.value.Value.{Value}
-use Rattle.serde_json.specs.Data.{Num, Data, null, number, array, object, Items, no_items, item, Members, no_members, member, put}
-use Rattle.serde_json.specs.Find.{get, get_member}
+use Rattle.serde_json.specs.Data.{Num, Data, null, boolean, number, string, array, object, Items, item, Members, no_members, put}
+use Rattle.serde_json.specs.Find.{get, get_member, as_object}
 use Rattle.serde_json.specs.Read.{number_of, of_json, of_items, of_members, max_depth, read}
 use Rattle.serde_json.proofs.Views.{get_member-put, get_member-put_other}
-use Rattle.json_view.specs.Json.{json, present, named, list_of}
+use Rattle.json_view.specs.Json.{json, present, named}
 use Rattle.json_view.specs.Trees.{shown, shown_number, shown_items, shown_members, fits, items_fit, members_fit, tree_of}
 
 -- ---- the whole value
@@ -79,6 +84,10 @@ no_tree bytes text same e = no_json bytes (sym (ap read same) ∙ read_by text N
 pub no_number : (bytes text : List ℕ) (j : tree.Json) → text ≡ bytes → tree_of text ≡ Some j → fits j ≡ false → json bytes ≡ None
 no_number bytes text j same e fit = no_json bytes (sym (ap read same) ∙ read_by text (Some j) e ∙ of_json-fits j ∙ ap (λ (b : Bool). cond b (Some (shown j)) None) fit)
 
+by_test : (b : Bool) → (b ≡ true → ⊥) → b ≡ false
+by_test true h = absurd (h refl)
+by_test false h = refl
+
 no_utf8 : (b : Bool) (o : Option Data) → (b ≡ true → ⊥) → cond b o None ≡ None
 no_utf8 true o h = absurd (h refl)
 no_utf8 false o h = refl
@@ -86,6 +95,51 @@ no_utf8 false o h = refl
 pub no_text : (bytes : List ℕ) → (IsUtf8 bytes → ⊥) → json bytes ≡ None
 unfolding json
 no_text bytes h = no_utf8 (is_utf8 bytes) (read bytes) (λ e. h (IsUtf8-from_is_utf8 bytes e))
+
+-- ---- a text that is JSON, by its depth and its numbers
+
+last : (o : Option (tree.Json × List Token)) (j : tree.Json) → option_and_then (λ p. tree.if_last p.0 p.1) o ≡ Some j → o ≡ Some (j, [])
+last None j e = not_found j e
+last (Some (i, [])) j e = ap (λ x. Some (x, [])) (Some_inj i j e)
+last (Some (i, t ∷ ts)) j e = not_found j e
+
+same_value : (d : ℕ) (ts : List Token) (j : tree.Json) → ts ≡ json_tokens j → depth j ≤ d → tree.value d ts ≡ Some (j, [])
+same_value d ts j e h = ap (tree.value d) (e ∙ sym (append-nil (json_tokens j))) ∙ value-json_tokens j d [] h
+
+pub json_within : (bytes text : List ℕ) (j : tree.Json) → IsUtf8 bytes → text ≡ bytes → tree.document text ≡ Some j → depth j ≤ max_depth → fits j ≡ true → json bytes ≡ Some (shown j)
+unfolding tree_of
+json_within bytes text j u same e h fit =
+    json_is bytes text j u same (ap (option_and_then (λ p. tree.if_last p.0 p.1)) (same_value max_depth (tokens text) j (tokens-document text j e) h)) fit
+
+beyond : (bytes text : List ℕ) (j : tree.Json) (o : Option tree.Json) → text ≡ bytes → tree.document text ≡ Some j → tree_of text ≡ o → (depth j ≤ max_depth → fits j ≡ true → ⊥) → json bytes ≡ None
+unfolding tree_of
+beyond bytes text j None same e is never = no_tree bytes text same is
+beyond bytes text j (Some i) same e is never =
+    let read = last (tree.value max_depth (tokens text)) i is in
+    let one : i ≡ j = ap (λ p. p.0) (Some_inj _ _ (one_reading max_depth 128 (tokens text) (i, []) (j, []) read (last (tree.value 128 (tokens text)) j e))) in
+    no_number bytes text i same is (by_test (fits i) (λ f. never (subst (λ k. depth k ≤ max_depth) one (value-depth max_depth (tokens text) [] i read)) (sym (ap fits one) ∙ f)))
+
+pub json_beyond : (bytes text : List ℕ) (j : tree.Json) → text ≡ bytes → tree.document text ≡ Some j → (depth j ≤ max_depth → fits j ≡ true → ⊥) → json bytes ≡ None
+json_beyond bytes text j same e never = beyond bytes text j (tree_of text) same e refl never
+
+not_document : (bytes text : List ℕ) (o : Option tree.Json) → text ≡ bytes → tree.document text ≡ None → tree_of text ≡ o → json bytes ≡ None
+unfolding tree_of
+not_document bytes text None same e is = no_tree bytes text same is
+not_document bytes text (Some i) same e is =
+    let read = last (tree.value max_depth (tokens text)) i is in
+    let deep = value-depth max_depth (tokens text) [] i read in
+    let all : tokens text ≡ json_tokens i = value-json_tokens_back max_depth (tokens text) [] i read ∙ append-nil (json_tokens i) in
+    not_found i (sym e ∙ ap (option_and_then (λ p. tree.if_last p.0 p.1)) (same_value 128 (tokens text) i all (omega (arith, deep))))
+
+pub no_document : (bytes text : List ℕ) → text ≡ bytes → tree.document text ≡ None → json bytes ≡ None
+no_document bytes text same e = not_document bytes text (tree_of text) same e refl
+
+the_tree : (text : List ℕ) (o : Option tree.Json) → tree.document text ≡ o → IsSome o → (j : tree.Json) × (tree.document text ≡ Some j)
+the_tree text None e h = absurd cc
+the_tree text (Some j) e h = (j, e)
+
+pub a_document : (text : List ℕ) → IsSome (tree.document text) → (j : tree.Json) × (tree.document text ≡ Some j)
+a_document text h = the_tree text (tree.document text) refl h
 
 -- ---- a look-up
 
@@ -154,14 +208,21 @@ is_absent (tree.object ms) e = absurd cc
 pub named_by : (name : List ℕ) (j : tree.Json) (o : Option tree.Json) → o ≡ find.get name j → option_and_then present (option_map shown o) ≡ named name (shown j)
 named_by name j o e = ap (λ (x : Option tree.Json). option_and_then present (option_map shown x)) e ∙ ap (option_and_then present) (sym (get-shown name j))
 
--- ---- the elements
+-- ---- a member
 
-pub list_of-shown : {A : Type 0} (vs : List (Value A)) → list_of (shown_items (items_view vs)) ≡ map (λ v. shown (value_view v)) vs
-list_of-shown [] = refl
-list_of-shown (v ∷ vs) = ap (λ (ds : List Data). shown (value_view v) ∷ ds) (list_of-shown vs)
+pub no_member : (name : List ℕ) (d : Data) → as_object d ≡ None → named name d ≡ None
+no_member name null e = refl
+no_member name (boolean b) e = refl
+no_member name (number n) e = refl
+no_member name (string s) e = refl
+no_member name (array ds) e = refl
+no_member name (object ms) e = absurd cc
 
-abbrev pub err : {A E : Type 0} → E → Result A E
-err e = Err e
+pub named_none : (name : List ℕ) (ms : tree.Members) → find.get_member name ms ≡ None → named name (shown (tree.object ms)) ≡ None
+named_none name ms e = sym (named_by name (tree.object ms) None (sym e))
 
-pub same_fault : {A E : Type 0} (x y : E) → err {A = A} x ≡ err y → x ≡ y
-same_fault x y e = cc
+pub named_null : (name : List ℕ) (ms : tree.Members) (j : tree.Json) → find.get_member name ms ≡ Some j → j ≡ tree.null → named name (shown (tree.object ms)) ≡ None
+named_null name ms j e null_is = sym (named_by name (tree.object ms) (Some j) (sym e)) ∙ is_absent j (ap find.is_null null_is)
+
+pub named_some : (name : List ℕ) (ms : tree.Members) (j : tree.Json) → find.get_member name ms ≡ Some j → find.is_null j ≡ false → named name (shown (tree.object ms)) ≡ Some (shown j)
+named_some name ms j e there = sym (named_by name (tree.object ms) (Some j) (sym e)) ∙ is_present j there

@@ -1,9 +1,13 @@
 -- The value that a tree of `json` shows, and whether each of its numbers has one.
-use Rattle.std.specs.Prelude.{ℕ, List, Bool, true, ◌&&◌, Option, Some, None, is_some, option_and_then}
+use Rattle.std.specs.Prelude.{ℕ, suc, ◌-◌, List, [], ◌∷◌, length, drop, Bool, true, ◌&&◌, Option, Some, None, is_some, option_map, option_and_then, nat_lt, if◌then◌else◌}
+use Rattle.std.specs.Borrow.{Bor}
+use Rattle.json.specs.Token as token
+use Rattle.json.specs.Token.{Token}
 use Rattle.json.specs.Json as tree
 use Rattle.json.specs.Lex.{tokens}
 use Rattle.serde_json.specs.Data.{Num, unsigned, Data, null, boolean, number, string, array, object, Items, no_items, item, Members, no_members, put}
 use Rattle.serde_json.specs.Read.{number_of, max_depth}
+use Rattle.json_view.specs.Json.{as_list}
 
 -- a number, or 0 in place of one that no float can hold
 abbrev pub shown_number : Option Num → Data
@@ -49,3 +53,40 @@ abbrev mutual
 -- the tree of a text, where it is one value and nothing more
 unfoldable pub tree_of : List ℕ → Option tree.Json
 tree_of text = option_and_then (λ p. tree.if_last p.0 p.1) (tree.value max_depth (tokens text))
+
+-- ---- the places of a text that was read
+
+-- the tree that tokens begin with, which nests no deeper than they are many
+abbrev pub reading : List Token → Option tree.Json
+reading ts = option_map (λ p. p.0) (tree.value (length ts) ts)
+
+-- what is shown where a value begins
+abbrev pub shown_reading : Option tree.Json → Data
+shown_reading None = null
+shown_reading (Some j) = shown j
+
+abbrev pub listed : Option (List Data) → List Data
+listed None = []
+listed (Some ds) = ds
+
+-- the elements of an array that begins
+abbrev pub shown_elements : Option tree.Json → List Data
+shown_elements o = listed (as_list (shown_reading o))
+
+-- the tokens from a place on; where there is no text, those that end an array
+abbrev pub tokens_from : Option (Bor (List Token)) → ℕ → List Token
+tokens_from None at = token.end_array ∷ []
+tokens_from (Some text) at = drop at text.now
+
+-- how deep the next token is, unless this one is too deep or too large
+abbrev pub depth_after : ℕ → Token → Option ℕ
+depth_after depth token.begin_object = if nat_lt depth max_depth then Some (suc depth) else None
+depth_after depth token.end_object = Some (depth - 1)
+depth_after depth token.begin_array = if nat_lt depth max_depth then Some (suc depth) else None
+depth_after depth token.end_array = Some (depth - 1)
+depth_after depth (token.key s) = Some depth
+depth_after depth (token.string s) = Some depth
+depth_after depth (token.number s) = if is_some (number_of s) then Some depth else None
+depth_after depth (token.boolean b) = Some depth
+depth_after depth token.null = Some depth
+depth_after depth token.bad = Some depth

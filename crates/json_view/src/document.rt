@@ -1,16 +1,13 @@
-ghost use Rattle.std.specs.Prelude.{◌≡◌, Some, None, Err, IfOk};
-ghost use Rattle.json.specs.Value.{value_view};
+ghost use Rattle.std.specs.Prelude.{◌≡◌, Some, None, Err, IfOk, is_some, true};
+ghost use Rattle.json.specs.Json.{Json, document};
+ghost use Rattle.json.specs.Lex.{tokens};
 ghost use Rattle.json_view.specs.Json.{json};
-ghost use Rattle.json_view.specs.Trees.{tree_of};
-ghost use Rattle.json_view.specs.Views.{document_value, node_value};
+ghost use Rattle.json_view.specs.Trees.{reading};
 
+use crate::limits::is_within;
 use crate::node::Node;
-use crate::numbers::numbers_fit;
-use json::{Error, Reader, Scratch, Value};
+use json::{Error, Scratch, Tape};
 use std::alloc::Global;
-
-// How deep arrays and objects may nest.
-const MOST_DEPTH: usize = 127;
 
 /// Why bytes are not read as JSON.
 #[derive(Clone, Copy, Debug, PartialEq, Eq)]
@@ -18,7 +15,7 @@ pub enum JsonFault {
     /// They are not UTF-8 or not one JSON text, nest deeper than 127 arrays and objects, or have a
     /// number that no 64-bit float can hold.
     NotJson,
-    /// Want of memory.
+    /// Want of memory, or a text of nearly 4 GiB.
     Memory,
 }
 
@@ -41,10 +38,13 @@ impl Room {
 /// escapes. Contracts see it by `document_value`, as the value that `serde_json` reads.
 #[derive(Drop)]
 pub struct Document<'a> {
-    value: Value<'a>,
+    tape: Tape<'a>,
+    ghost begins: { is_some (reading tape) ≡ true },
 }
 
 impl<'a> Document<'a> {
+    ghost use Rattle.json_view.specs.Views.{document_value, node_value};
+
     /// The value that bytes are (RFC 8259). Of equal keys in an object the last counts.
     pub fn read(
         alloc: Global,
@@ -57,10 +57,11 @@ impl<'a> Document<'a> {
         let Ok(text) = simdutf8::basic::from_utf8(bytes) else {
             return Err(JsonFault::NotJson);
         };
-        match tree_of(alloc, text, room) {
-            Ok(value) if numbers_fit(&value) => Ok(Document { value }),
+        match Tape::parse(text, &mut room.scratch, Vec::new(alloc)) {
+            Ok(tape) if is_within(&tape) => Ok(Document { tape }),
             Ok(_) => Err(JsonFault::NotJson),
-            Err(fault) => Err(fault),
+            Err(Error::Invalid) => Err(JsonFault::NotJson),
+            Err(_) => Err(JsonFault::Memory),
         }
     }
 
@@ -68,25 +69,6 @@ impl<'a> Document<'a> {
     pub fn root(&self) -> Node<'_, 'a>
         ensures { node_value result ≡ document_value self.now }
     {
-        Node::new(&self.value)
+        Node::new(&self.tape, 0)
     }
-}
-
-#[tactic(auto, unfolding(crate::specs::Trees::tree_of))]
-fn tree_of<'a>(alloc: Global, text: &'a str, room: &'a mut Room) -> Result<Value<'a>, JsonFault>
-    ensures value { IfOk result (λ v. tree_of text.now ≡ Some (value_view v)) }
-    ensures not_json { result ≡ Err JsonFault.NotJson → tree_of text.now ≡ None }
-{
-    let Ok(mut reader) = Reader::new(text, &mut room.scratch) else {
-        return Err(JsonFault::Memory);
-    };
-    let value = match Value::read(alloc, &mut reader, MOST_DEPTH) {
-        Ok(value) => value,
-        Err(Error::Invalid) => return Err(JsonFault::NotJson),
-        Err(_) => return Err(JsonFault::Memory),
-    };
-    if reader.next().is_some() {
-        return Err(JsonFault::NotJson);
-    }
-    Ok(value)
 }

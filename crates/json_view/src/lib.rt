@@ -2,8 +2,10 @@
 #![tactic(auto)]
 
 mod document;
+mod limits;
 mod node;
 mod numbers;
+mod walk;
 
 pub use document::{Document, JsonFault, Room};
 pub use node::{Elements, Node};

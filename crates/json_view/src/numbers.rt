@@ -1,49 +1,11 @@
 ghost use Rattle.std.specs.Prelude.{◌≡◌, ◌==◌, ◌<◌, IsTrue, is_some, length, slice_index};
-ghost use Rattle.json.specs.Value.{value_view, items_view, members_view};
 ghost use Rattle.serde_json.specs.Read.{number_of, number_from, float_of};
-ghost use Rattle.json_view.specs.Trees.{fits, items_fit, members_fit};
 
 use fast_float::Numeral;
-use json::Value;
 
-/// Whether a 64-bit float can hold each number of a value.
-#[cycle(fit)]
-pub fn numbers_fit(value: &Value) -> bool
-    ensures { result ≡ fits (value_view value.now) }
-{
-    match value {
-        Value::Number(text) => number_fits(text),
-        Value::Array(items) => items_fit(items.as_slice()),
-        Value::Object(members) => members_fit(members.as_slice()),
-        _ => true,
-    }
-}
-
-#[cycle(fit)]
-fn items_fit(items: &[Value]) -> bool
-    ensures { result ≡ items_fit (items_view items.now) }
-{
-    for item in items {
-        if !numbers_fit(item) {
-            return false;
-        }
-    }
-    true
-}
-
-#[cycle(fit)]
-fn members_fit(members: &[(&str, Value)]) -> bool
-    ensures { result ≡ members_fit (members_view members.now) }
-{
-    for member in members {
-        if !numbers_fit(&member.1) {
-            return false;
-        }
-    }
-    true
-}
-
-fn number_fits(text: &str) -> bool
+/// Whether a 64-bit float can hold a number.
+#[inline]
+pub fn number_fits(text: &str) -> bool
     ensures { result ≡ is_some (number_of text.now) }
 {
     let bytes = text.as_bytes();

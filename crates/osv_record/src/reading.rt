@@ -10,6 +10,7 @@ use crate::members::{list_or_none, object_or, text_or};
 use crate::packages::package_of;
 use crate::ranges::ranges_of;
 use crate::record::{Affected, Record};
+use crate::texts::Texts;
 use json_view::{Document, Elements, JsonFault, Node, Room};
 use osv_prim::{Bytes, Id, IdFault, List, Stop, Text};
 use std::alloc::Global;
@@ -70,19 +71,18 @@ fn withdrawn_of(found: Option<Node>) -> Result<bool, Stop<RecordFault>>
 }
 
 #[tactic(auto, unfolding(crate::specs::Reading::version_of))]
-fn version_of(alloc: Global, node: Node) -> Result<Text, Stop<RecordFault>>
-    ensures { Gives (λ t. t) result (version_of (node_value node.entry)) }
+fn version_of<'a>(node: Node<'_, 'a>) -> Result<&'a str, Stop<RecordFault>>
+    ensures { Gives (λ t. t.now) result (version_of (node_value node.entry)) }
 {
-    let text = text_or(node, RecordFault::WrongType(Member::Version))?;
-    Ok(Text::copy_of(alloc, text)?)
+    text_or(node, RecordFault::WrongType(Member::Version))
 }
 
-fn versions_of(alloc: Global, mut elements: Elements) -> Result<List<Text>, Stop<RecordFault>>
-    ensures { Gives (λ l. l) result (each version_of (element_values elements.entry)) }
+fn versions_of(alloc: Global, mut elements: Elements) -> Result<Texts, Stop<RecordFault>>
+    ensures { Gives (λ t. t) result (each version_of (element_values elements.entry)) }
 {
-    let mut versions = List::with_capacity(alloc, elements.len())?;
+    let mut versions = Texts::with_capacity(alloc, elements.len())?;
     while let Some(node) = elements.next() {
-        versions.push(version_of(alloc, node)?)?;
+        versions = versions.with(version_of(node)?)?;
     }
     Ok(versions)
 }

@@ -4,6 +4,7 @@ ghost use Rattle.osv_record.specs.Advisories.{git_ranges, git_ranges_of, is_git}
 use crate::fault::RecordFault;
 use crate::range::Range;
 use crate::reading::record_from;
+use crate::texts::Texts;
 use json_view::Room;
 use osv_prim::{Bytes, Id, List, Memory, PackageKey, RangeKind, Stop, Text};
 use std::alloc::Global;
@@ -18,7 +19,7 @@ pub(crate) const PLACES: usize = 1 << 32;
 pub struct Affected {
     pub package: Option<PackageKey>,
     pub ranges: List<Range>,
-    pub versions: List<Text>,
+    pub versions: Texts,
 }
 
 impl Model for Affected {
@@ -36,7 +37,7 @@ impl Affected {
     pub(crate) fn new(
         package: Option<PackageKey>,
         ranges: List<Range>,
-        versions: List<Text>,
+        versions: Texts,
     ) -> Result<Affected, Memory>
         ensures { IfOk result (λ a. a ≡ record { «package» = «package»; ranges = ranges; versions = versions }) }
     {

@@ -5,6 +5,7 @@ pub mod Unlines
 pub mod Heard
 pub mod Numerals
 pub mod FoundRows
+pub mod Lexed
 pub mod Walked
 pub mod Matching
 pub mod Finding

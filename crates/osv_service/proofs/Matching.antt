@@ -11,7 +11,8 @@ use Rattle.clap.specs.Walk.{Held, Row, Text, Walk, has_row, nothing_held, option
 use Rattle.clap.proofs.TakesLemmas.{leaf_takes}
 use Rattle.osv_service.specs.Said.{Said, and_words, few, give, hear_free, hear_option, heard, is_dashed, is_equals, nothing_heard, said, said_after}
 use Rattle.osv_service.specs.Reader.{Holds, reader}
-use Rattle.osv_service.proofs.Walked.{Ready, at, calm, gives, held, id_of, known_rules, name_of, no_equals_before, none_there, now, one, option_is, plain_word_is, ready_given, ready_plain, ready_value, rule_at, said_at, set_at, shape, trail, turn_end, turn_given, turn_named, turn_plain, turn_value, walked_end, walked_given, walked_named, walked_plain, walked_value, words_as}
+use Rattle.osv_service.proofs.Lexed.{gives, id_of, name_of, no_equals_before, option_is, plain_word_is, said_at, set_at}
+use Rattle.osv_service.proofs.Walked.{Ready, at, calm, held, known_rules, none_there, now, one, ready_given, ready_plain, ready_value, rule_at, shape, trail, turn_end, turn_given, turn_named, turn_plain, turn_value, walked_end, walked_given, walked_named, walked_plain, walked_value, words_as}
 
 -- where the walk stands: nothing waits, or an option waits for its value
 data State : Type 0 where

@@ -51,9 +51,10 @@ fn parts(alloc: Global, record: &Record) -> Result<String, AllocError> {
         if let Some(package) = &entry.package {
             text.push_str(package.name.as_str())?;
         }
-        for version in entry.versions.as_slice() {
+        let mut versions = entry.versions.cursor();
+        while let Some(version) = versions.next() {
             text.push('/')?;
-            text.push_str(version.as_str())?;
+            text.push_str(std::str::from_utf8(version).unwrap_or("?"))?;
         }
         for range in entry.ranges.as_slice() {
             add_range(&mut text, range)?;
