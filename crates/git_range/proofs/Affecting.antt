@@ -18,8 +18,8 @@ use Rattle.git_range.proofs.Ids.{row_of, has_row, related, root_parents, is_root
 use Rattle.git_range.proofs.Newest.{row_id, row_parents, parent_row, row_says, its_row}
 use Rattle.git_range.proofs.Searching.{Leads, leads_itself, leads_before, reached_by}
 
--- two tests that agree at each member
-any_same : {A : Type 0} (p q : A → Bool) (xs : List A) → ((x : A) → Contains xs x → p x ≡ q x) → list_any p xs ≡ list_any q xs
+-- of two tests that agree at each member of a list, either both find one or neither does
+pub any_same : {A : Type 0} (p q : A → Bool) (xs : List A) → ((x : A) → Contains xs x → p x ≡ q x) → list_any p xs ≡ list_any q xs
 any_same p q [] same = refl
 any_same p q (x ∷ xs) same =
     ap (λ (b : Bool). b || list_any p xs) (same x (Contains-get_or (x ∷ xs) 0 x (omega arith)))
@@ -128,7 +128,8 @@ module _ (graph : List CommitRow) (legal : IsLegal graph) where
           by None h = absurd (false≢true h)
           by (Some limit) h = subst (λ (x : List ℕ). leads (reverse graph) c x ≡ true) ((bytes_eq-Decides before.0 limit).0 h) (ahead_of c before.0 before.2)
 
-      within_by : is_within_limits graph events c ≡ true → IsWithinLimits graph events c
+      -- the test of the rows is true exactly where walks let the commit through
+      pub within_by : is_within_limits graph events c ≡ true → IsWithinLimits graph events c
       within_by h =
           elim (or_cases (not (has_limit events) || names_all Limit events) (list_any limits events) h) [
             | inl free ↦
@@ -139,7 +140,7 @@ module _ (graph : List CommitRow) (legal : IsLegal graph) where
             | inr some ↦ inr (inr (before_one some))
           ]
 
-      by_within : IsWithinLimits graph events c → is_within_limits graph events c ≡ true
+      pub by_within : IsWithinLimits graph events c → is_within_limits graph events c ≡ true
       by_within (inl none) =
           or_left (not (has_limit events) || names_all Limit events) (list_any limits events) (or_left (not (has_limit events)) (names_all Limit events) (not_from_false (has_limit events) none))
       by_within (inr (inl all)) = or_left (not (has_limit events) || names_all Limit events) (list_any limits events) (or_right (not (has_limit events)) (names_all Limit events) all)

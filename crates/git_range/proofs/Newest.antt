@@ -26,8 +26,8 @@ module _ (graph : List CommitRow) (legal : IsLegal graph) where
   module _ (says : List ℕ → CommitRow → (List ℕ → Bool) → Bool) (along : List CommitRow → List ℕ → Bool) (none : (c : List ℕ) → along [] c ≡ false)
       (next : (r : CommitRow) (older : List CommitRow) (c : List ℕ) → along (r ∷ older) c ≡ cond (bytes_eq c r.oid) (says c r (along older)) (along older c))
       (by_parents : (c : List ℕ) (r : CommitRow) (f g : List ℕ → Bool) → ((p : List ℕ) → Contains r.parents p → f p ≡ g p) → says c r f ≡ says c r g) where
-    -- along the first rows
-    abbrev upto : ℕ → List ℕ → Bool
+    -- what the first n rows say
+    abbrev pub upto : ℕ → List ℕ → Bool
     upto n = along (reverse (take n graph))
 
     one_more : (n : ℕ) (lt : n < length graph) → reverse (take (suc n) graph) ≡ some_row graph n lt ∷ reverse (take n graph)
@@ -44,8 +44,8 @@ module _ (graph : List CommitRow) (legal : IsLegal graph) where
     elsewhere : (n : ℕ) (lt : n < length graph) (c : List ℕ) → bytes_eq c (some_row graph n lt).oid ≡ false → upto (suc n) c ≡ upto n c
     elsewhere n lt c other = upto-suc n lt c ∙ cond-false _ _ _ other
 
-    -- later rows say nothing of a commit
-    stays : (n k : ℕ) → k < n → n ≤ length graph → upto n (id_at graph k) ≡ upto (suc k) (id_at graph k)
+    -- later rows say nothing of a commit: what the first rows say of it, the rows up to its own say
+    pub stays : (n k : ℕ) → k < n → n ≤ length graph → upto n (id_at graph k) ≡ upto (suc k) (id_at graph k)
     stays zero k lt le = absurd (omega arith)
     stays (suc n) k lt le =
         elim (cases_eq k n) [
@@ -61,7 +61,8 @@ module _ (graph : List CommitRow) (legal : IsLegal graph) where
     whole : (c : List ℕ) → upto (length graph) c ≡ along (reverse graph) c
     whole c = ap (λ (rows : List CommitRow). along (reverse rows) c) (take-length graph)
 
-    at_once : (k : ℕ) → k < length graph → along (reverse graph) (id_at graph k) ≡ upto (suc k) (id_at graph k)
+    -- what all rows say of a commit, the rows up to its own say
+    pub at_once : (k : ℕ) → k < length graph → along (reverse graph) (id_at graph k) ≡ upto (suc k) (id_at graph k)
     at_once k lt = sym (whole (id_at graph k)) ∙ stays (length graph) k lt (omega arith)
 
     -- what all rows say of a commit, its row says of it by what all rows say of its parents

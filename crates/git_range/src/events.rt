@@ -1,4 +1,4 @@
-ghost use Rattle.std.specs.Prelude.{◌≡◌, ◌+◌, ◌<◌, ◌≤◌, ◌||◌, ℕ, length, slice_index_or, false, IfOk};
+ghost use Rattle.std.specs.Prelude.{◌≡◌, ◌+◌, ◌<◌, ◌≤◌, ◌||◌, ℕ, length, slice_index_or, false, IfOk, IfSome};
 ghost use Rattle.std.specs.List.{list_all};
 ghost use Rattle.osv_prim.specs.Graphs.{id_at, is_kind, is_named, is_read, means_all, names_all, has_limit};
 ghost use Rattle.osv_prim.specs.Oids.{oid_of};
@@ -52,8 +52,9 @@ fn is_kind(kind: EventKind, other: EventKind) -> bool
     }
 }
 
-/// Whether there is a limit.
-pub(crate) fn has_limit(events: &[Event]) -> bool
+/// Whether some event of a GIT range is a limit. Where none is, or one is `*` (`names_all`), limits keep
+/// no commit out (OSV schema 1.6, "affected[].ranges[].events").
+pub fn has_limit(events: &[Event]) -> bool
     ensures { result ≡ has_limit events.now }
 {
     events
@@ -61,8 +62,10 @@ pub(crate) fn has_limit(events: &[Event]) -> bool
         .any(|event| is_kind(EventKind::Limit, event.kind))
 }
 
-/// Whether an event of the kind means every commit.
-pub(crate) fn names_all(kind: EventKind, events: &[Event]) -> bool
+/// Whether some event of the kind means every commit: of introduced events one with the value `0`, from
+/// which the range begins at each commit without parents, and of limits one with `*`, which keeps no
+/// commit out. No fixed and no last affected event does (OSV schema 1.6, "affected[].ranges[].events").
+pub fn names_all(kind: EventKind, events: &[Event]) -> bool
     ensures { result ≡ names_all kind events.now }
 {
     events
@@ -130,9 +133,11 @@ pub(crate) fn note_named(graph: &Graph, kind: EventKind, events: &[Event], noted
     }
 }
 
-// The row of the commit that the event names, where it is of the kind.
-fn row_named(graph: &Graph, kind: EventKind, event: &Event) -> Option<u32>
-    ensures { IsNamedRow graph.now kind event.now result }
+/// The number, from 0, of the row whose commit the event names, where the event is of the kind and the
+/// graph has that commit. It is found by the commit's id, without a step through the graph.
+pub fn row_named(graph: &Graph, kind: EventKind, event: &Event) -> Option<u32>
+    ensures named { IsNamedRow graph.now kind event.now result }
+    ensures within { IfSome result (λ n. n < length graph.now) }
 {
     if !is_kind(kind, event.kind) {
         return None;

@@ -9,4 +9,4 @@ mod marks;
 mod reached;
 
 pub use affected::affects;
-pub use events::all_read;
+pub use events::{all_read, has_limit, names_all, row_named};

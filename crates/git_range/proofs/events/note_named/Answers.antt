@@ -15,11 +15,11 @@ loop-event-preserved c n lt =
     let so_far = c.loop-event.invariant n before in
     let Goal : List Bool → Type 0 = λ xs. get_or xs n false ≡ (get_or first n false || is_named c.args.kind (take (i + 1) events) (id_at graph n)) in
     let same : c.row_named.result ≢ Some n → Goal c.loop-event.noted =
-    λ ne. noted_same graph c.args.kind events i c.event-item.result c.loop-event-test.true c.event-item.is c.row_named.result c.row_named.ensures first c.loop-event.noted n within ne so_far in
+    λ ne. noted_same graph c.args.kind events i c.event-item.result c.loop-event-test.true c.event-item.is c.row_named.result c.row_named.ensures.named first c.loop-event.noted n within ne so_far in
     elim c.match-row_named.branch [
       | in-Some+then-number-noted w ↦
           subst Goal (sym w.noted-is)
-          (noted_set graph c.args.kind events i c.event-item.result c.loop-event-test.true c.event-item.is c.row_named.result c.row_named.ensures first c.loop-event.noted
+          (noted_set graph c.args.kind events i c.event-item.result c.loop-event-test.true c.event-item.is c.row_named.result c.row_named.ensures.named first c.loop-event.noted
           w.in-Some.number w.in-Some.is w.if-number-noted.true n within so_far)
       | in-Some+else-number-noted w ↦
           subst Goal (sym w.noted-is)
