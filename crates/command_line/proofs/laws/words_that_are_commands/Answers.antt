@@ -1,0 +1,8 @@
+use Rattle.std.proofs.Common.{refl}
+use Rattle.clap.proofs.OnLiterals.{clap_on_literals}
+use Rattle.osv_prim.specs.Digits.{number}
+use Rattle.command_line.proofs.laws.words_that_are_commands.Goals as goal
+
+pub returns : goal.returns
+unfolding clap_on_literals number
+returns c = record { plain = refl; behind_two_dashes = refl; in_two_words = refl; all_options = refl }

@@ -1,0 +1,30 @@
+//! The grammar at words that are written out, each the contract of a function that does nothing.
+
+ghost use Rattle.std.specs.Prelude.{◌≡◌, ◌∷◌, [], codes};
+ghost use Rattle.osv_prim.specs.declared.subject.Subject.TheVariants.{Package};
+ghost use Rattle.settings.specs.Ranges.{default_settings};
+ghost use Rattle.settings.specs.declared.TheConstants.{MAX_INPUT_BYTES};
+ghost use Rattle.command_line.specs.Commands.{command};
+ghost use Rattle.command_line.specs.declared.command.Command.TheVariants.{Ask, Check, Replay};
+
+/// Options stand before, between and behind the operands, in both spellings.
+pub fn words_that_are_commands()
+    ensures plain { command (codes "ask" ∷ codes "npm" ∷ codes "p" ∷ codes "1.0" ∷ [])
+        ≡ Some (Ask (Package (record { ecosystem = codes "npm"; name = codes "p" }) (Some (codes "1.0"))) MAX_INPUT_BYTES) }
+    ensures behind_two_dashes { command (codes "ask" ∷ codes "--input=200" ∷ codes "npm" ∷ codes "p" ∷ codes "--" ∷ codes "-1" ∷ [])
+        ≡ Some (Ask (Package (record { ecosystem = codes "npm"; name = codes "p" }) (Some (codes "-1"))) 200) }
+    ensures in_two_words { command (codes "check" ∷ codes "--input" ∷ codes "7" ∷ []) ≡ Some (Check 7) }
+    ensures all_options { command (codes "replay" ∷ codes "--requests=2" ∷ codes "--body" ∷ codes "1" ∷ [])
+        ≡ Some (Replay (record default_settings { body = 1; requests = 2 })) }
+{}
+
+/// An option stands once, with a value in its range, at a command that takes it.
+pub fn words_that_are_none()
+    ensures twice { command (codes "ask" ∷ codes "--input" ∷ codes "5" ∷ codes "--input" ∷ codes "5" ∷ codes "npm" ∷ codes "p" ∷ []) ≡ None }
+    ensures without_value { command (codes "check" ∷ codes "--input" ∷ []) ≡ None }
+    ensures below_its_range { command (codes "replay" ∷ codes "--body" ∷ codes "0" ∷ []) ≡ None }
+    ensures above_its_range { command (codes "replay" ∷ codes "--requests=1000001" ∷ []) ≡ None }
+    ensures of_another_command { command (codes "replay" ∷ codes "--input=5" ∷ []) ≡ None }
+    ensures an_operand { command (codes "check" ∷ codes "npm" ∷ []) ≡ None }
+    ensures no_operands { command (codes "ask" ∷ []) ≡ None }
+{}
