@@ -18,7 +18,7 @@ pub record IsPiece (start end : ℕ) (numbers : List ℕ) (piece : List ℕ) : T
   pub within : end ≤ length numbers
   pub is : piece ≡ slice_range numbers start end
 
--- the piece at a place
+-- the piece at a index
 pub piece_at : (start : ℕ) (ends numbers : List ℕ) (k : ℕ) → IsCut start ends (length numbers) → k < length ends
     → IsPiece (get_or (start ∷ ends) k 0) (get_or ends k 0) numbers (get_or (pieces start ends numbers) k [])
 piece_at start [] numbers k cut lt = absurd (omega arith)

@@ -12,6 +12,7 @@ use Rattle.std.proofs.lemmas.Slice.Eq.{bytes_eq-Decides}
 use Rattle.osv_prim.specs.declared.oid.CommitRow.{CommitRow}
 use Rattle.osv_prim.specs.Graphs.{ids, has, id_at, parents_at, IsLegal}
 use Rattle.commit_graph.specs.Linked.{IsLinked, IsGraph, weight_of}
+use Rattle.commit_graph.proofs.Rows.{length-ids}
 
 -- ---- lists
 
@@ -31,7 +32,7 @@ sum-map : {A : Type 0} (f : A → ℕ) {B : Type 0} (g : B → A) (xs : List B) 
 sum-map f g [] = refl
 sum-map f g (x ∷ xs) = sum_by-cons f (g x) (map g xs) ∙ ap (λ n. f (g x) + n) (sum-map f g xs) ∙ sym (sum_by-cons (λ y. f (g y)) x xs)
 
--- what holds at each place of a list, and of one more at its end
+-- what holds at each index of a list, and of one more at its end
 each_push : {A : Type 0} (P : ℕ → Type 0) (xs : List A) (x : A) → ((n : ℕ) → n < length xs → P n) → P (length xs) → EachIndex (xs ++ x ∷ []) P
 each_push P xs x before at n lt =
     elim (cases_order n (length xs)) [
@@ -44,9 +45,6 @@ each_push P xs x before at n lt =
 
 ids-push : (graph : List CommitRow) (r : CommitRow) → ids (graph ++ r ∷ []) ≡ ids graph ++ r.oid ∷ []
 ids-push graph r = map_push (λ (x : CommitRow). x.oid) graph r
-
-pub length-ids : (graph : List CommitRow) → length (ids graph) ≡ length graph
-length-ids graph = length-map graph (λ (x : CommitRow). x.oid)
 
 pub id_at-push : (graph : List CommitRow) (r : CommitRow) (n : ℕ) → n < length graph → id_at (graph ++ r ∷ []) n ≡ id_at graph n
 id_at-push graph r n lt =

@@ -1,5 +1,6 @@
 pub mod Cuts
+pub mod Extended
 pub mod Faulty
 pub mod Growth
 pub mod Numbers
-pub mod Extended
+pub mod Rows

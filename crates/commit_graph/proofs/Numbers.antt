@@ -1,34 +1,17 @@
--- Numbers of rows beside their ids, and a graph's first rows.
-use Rattle.std.proofs.Common.{◌≡◌, ◌≢◌, ℕ, ◌<◌, inl, inr, false, List, [], length, map, take, get_or, All, Some, sym, ap, subst, ◌∙◌, arith}
+-- A copy of a graph, row after row.
+use Rattle.std.proofs.Common.{◌≡◌, ℕ, ◌<◌, false, List, [], length, map, take, get_or, All, sym, ap, subst, ◌∙◌, arith}
 use Rattle.std.specs.Str.{bytes_eq}
-use Rattle.std.proofs.lemmas.Bool.{cases_Bool}
-use Rattle.std.proofs.lemmas.List.{get_or-map, get_or-take, take-map, length-take-le}
+use Rattle.std.proofs.lemmas.Bool.{false_from_ne_true}
+use Rattle.std.proofs.lemmas.List.{get_or-take, take-map, length-take-le}
 use Rattle.std.proofs.lemmas.List.Elements.{All-weaker, All-from_get_or}
 use Rattle.std.proofs.lemmas.List.Folds.{list_any_none}
-use Rattle.std.proofs.lemmas.List.Quantifiers.{position-Some}
 use Rattle.std.proofs.lemmas.Slice.Eq.{bytes_eq-Decides}
 use Rattle.osv_prim.specs.declared.oid.CommitRow.{CommitRow}
-use Rattle.osv_prim.specs.Graphs.{ids, has, number_of, id_at, parents_at, IsLegal}
-use Rattle.commit_graph.proofs.Growth.{length-ids, map-agree}
-
-different : (a b : List ℕ) → a ≢ b → bytes_eq a b ≡ false
-different a b ne =
-    elim (cases_Bool (bytes_eq a b)) [
-      | inl same ↦ absurd (ne ((bytes_eq-Decides a b).0 same))
-      | inr other ↦ other
-    ]
-
--- the number of a commit leads back to it
-pub found : (graph : List CommitRow) (c : List ℕ) (n : ℕ) → number_of graph c ≡ Some n → (n < length graph) × (id_at graph n ≡ c)
-found graph c n e =
-    let p = position-Some (bytes_eq c) (ids graph) n [] e in
-    (omega (arith, p.0, length-ids graph), sym ((bytes_eq-Decides c (id_at graph n)).0 p.1))
+use Rattle.osv_prim.specs.Graphs.{ids, has, id_at, parents_at, IsLegal}
+use Rattle.commit_graph.proofs.Growth.{map-agree}
+use Rattle.commit_graph.proofs.Rows.{length-ids, id_at-row, parents_at-row, id_at-take}
 
 -- ---- a graph's first rows
-
-id_at-take : (graph : List CommitRow) (k n : ℕ) → n < k → id_at (take k graph) n ≡ id_at graph n
-id_at-take graph k n lt =
-    ap (λ (xs : List (List ℕ)). get_or xs n []) (sym (take-map (λ (r : CommitRow). r.oid) k graph)) ∙ get_or-take k (ids graph) n [] lt
 
 pub named_before : (graph : List CommitRow) (k : ℕ) (ns : List ℕ) → All (λ n. n < k) ns → map (id_at (take k graph)) ns ≡ map (id_at graph) ns
 named_before graph k ns below =
@@ -36,7 +19,8 @@ named_before graph k ns below =
 
 module _ (graph : List CommitRow) (legal : IsLegal graph) (k : ℕ) (lt : k < length graph) where
   before_differs : (i : ℕ) → i < k → bytes_eq (id_at graph k) (id_at graph i) ≡ false
-  before_differs i i_lt = different (id_at graph k) (id_at graph i) (λ e. legal.differ i k [] i_lt (omega (arith, length-ids graph)) (sym e))
+  before_differs i i_lt = false_from_ne_true (bytes_eq (id_at graph k) (id_at graph i))
+      (λ h. legal.differ i k [] i_lt (omega (arith, length-ids graph)) (sym ((bytes_eq-Decides (id_at graph k) (id_at graph i)).0 h)))
 
   -- no earlier row has a row's id
   pub absent_before : has (take k graph) (id_at graph k) ≡ false
@@ -47,13 +31,6 @@ module _ (graph : List CommitRow) (legal : IsLegal graph) (k : ℕ) (lt : k < le
       (λ i i_lt.
       let within : i < k = omega (arith, length-take-le k (ids graph) (omega (arith, length-ids graph))) in
       subst (λ (x : List ℕ). bytes_eq (id_at graph k) x ≡ false) (sym (get_or-take k (ids graph) i [] within)) (before_differs i within))))
-
--- the id and the parents of a row, by its number
-pub id_at-row : (graph : List CommitRow) (k : ℕ) (d : CommitRow) → k < length graph → id_at graph k ≡ (get_or graph k d).oid
-id_at-row graph k d lt = get_or-map (λ (r : CommitRow). r.oid) graph k d [] lt
-
-pub parents_at-row : (graph : List CommitRow) (k : ℕ) (d : CommitRow) → k < length graph → parents_at graph k ≡ (get_or graph k d).parents
-parents_at-row graph k d lt = get_or-map (λ (r : CommitRow). r.parents) graph k d [] lt
 
 -- ---- a copy, row after row
 

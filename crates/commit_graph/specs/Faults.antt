@@ -23,12 +23,12 @@ name_of (faults.SelfParent row) = codes "SelfParent"
 name_of (faults.TooMany row) = codes "TooMany"
 name_of faults.Memory = codes "Memory"
 
-abbrev pub place_of : GraphFault → ℕ
-place_of (faults.UnknownParent row) = row
-place_of (faults.ParentsDiffer row) = row
-place_of (faults.SelfParent row) = row
-place_of (faults.TooMany row) = row
-place_of faults.Memory = 0
+abbrev pub row_of : GraphFault → ℕ
+row_of (faults.UnknownParent row) = row
+row_of (faults.ParentsDiffer row) = row
+row_of (faults.SelfParent row) = row
+row_of (faults.TooMany row) = row
+row_of faults.Memory = 0
 
 -- the same ids in the same order
 abbrev pub same_ids : List (List ℕ) → List (List ℕ) → Bool
@@ -36,28 +36,28 @@ same_ids = pointwise bytes_eq
 
 -- a row whose commit is there already, with these parents
 abbrev pub fault_of_known : ℕ → CommitRow → List (List ℕ) → Option GraphFault
-fault_of_known place r there = if same_ids there r.parents then None else Some (faults.ParentsDiffer place)
+fault_of_known index r there = if same_ids there r.parents then None else Some (faults.ParentsDiffer index)
 
 abbrev pub fault_of_new : List CommitRow → ℕ → ℕ → CommitRow → Option GraphFault
-fault_of_new graph most place r =
-    if list_any (bytes_eq r.oid) r.parents then Some (faults.SelfParent place)
-    else (if not (list_all (has graph) r.parents) then Some (faults.UnknownParent place)
-    else (if nat_le most (length graph) then Some (faults.TooMany place) else None))
+fault_of_new graph most index r =
+    if list_any (bytes_eq r.oid) r.parents then Some (faults.SelfParent index)
+    else (if not (list_all (has graph) r.parents) then Some (faults.UnknownParent index)
+    else (if nat_le most (length graph) then Some (faults.TooMany index) else None))
 
--- the fault of a row at this place, where a graph is there already
+-- the fault of a row that stands at this index, where a graph is there already
 abbrev pub fault_of : List CommitRow → ℕ → ℕ → CommitRow → Option GraphFault
-fault_of graph most place r =
-    option_map_or (λ n. fault_of_known place r (parents_at graph n)) (number_of graph r.oid) (fault_of_new graph most place r)
+fault_of graph most index r =
+    option_map_or (λ n. fault_of_known index r (parents_at graph n)) (number_of graph r.oid) (fault_of_new graph most index r)
 
--- the fault of the row at a place, where the graph and the rows before it are there
+-- the fault of the row at an index, where the graph and the rows before it are there
 abbrev pub fault_at : List CommitRow → ℕ → List CommitRow → ℕ → Option GraphFault
-fault_at graph most rows place = option_map_or (λ r. fault_of (joined graph (take place rows)) most place r) (slice_get rows place) None
+fault_at graph most rows index = option_map_or (λ r. fault_of (joined graph (take index rows)) most index r) (slice_get rows index) None
 
 abbrev pub IsSound : List CommitRow → ℕ → List CommitRow → Type 0
-IsSound graph most rows = (place : ℕ) → place < length rows → fault_at graph most rows place ≡ None
+IsSound graph most rows = (index : ℕ) → index < length rows → fault_at graph most rows index ≡ None
 
 -- the row that it names has this fault, and no row before it has one
 pub record IsFirstFault (graph : List CommitRow) (most : ℕ) (rows : List CommitRow) (fault : GraphFault) : Type 0 where
-  pub there : place_of fault < length rows
-  pub found : fault_at graph most rows (place_of fault) ≡ Some fault
-  pub first : (place : ℕ) → place < place_of fault → fault_at graph most rows place ≡ None
+  pub there : row_of fault < length rows
+  pub found : fault_at graph most rows (row_of fault) ≡ Some fault
+  pub first : (index : ℕ) → index < row_of fault → fault_at graph most rows index ≡ None

@@ -1,4 +1,4 @@
--- A list of lists as one list and the places at which its pieces end (our own).
+-- A list of lists as one list, and where each of its pieces ends (our own).
 use Rattle.std.specs.Prelude.{◌≡◌, ℕ, ◌≤◌, List, [], ◌∷◌}
 use Rattle.std.specs.List.{slice_range}
 

@@ -3,8 +3,9 @@ ghost use Rattle.std.specs.Prelude.{◌≡◌};
 use osv_prim::Memory;
 use std::alloc::AllocError;
 
-/// Why rows are not joined to a graph. `row` is the place of the first faulty row, from 0. In one row
-/// the faults are looked for in the order `ParentsDiffer`, `SelfParent`, `UnknownParent`, `TooMany`.
+/// Why rows are not joined to a graph. `row` is the index of the first faulty row in the list that is
+/// joined, from 0. In one row the faults are looked for in the order `ParentsDiffer`, `SelfParent`,
+/// `UnknownParent`, `TooMany`.
 #[derive(Clone, Copy, Debug, PartialEq, Eq)]
 pub enum GraphFault {
     /// A parent is neither in the graph nor an earlier row.
@@ -20,11 +21,11 @@ pub enum GraphFault {
 }
 
 impl GraphFault {
-    ghost use Rattle.commit_graph.specs.Faults.{code_of, name_of, place_of};
+    ghost use Rattle.commit_graph.specs.Faults.{code_of, name_of, row_of};
 
-    /// The place of the faulty row, from 0. It is 0 for want of memory.
+    /// The index of the faulty row in the list that is joined, from 0. It is 0 for want of memory.
     pub fn row(&self) -> u64
-        ensures { result ≡ place_of self.now }
+        ensures { result ≡ row_of self.now }
     {
         match *self {
             GraphFault::UnknownParent { row }
@@ -35,7 +36,7 @@ impl GraphFault {
         }
     }
 
-    /// The number under which the fault is printed.
+    /// The number under which the fault is printed, from 1 to 5 in the order of the variants.
     pub fn code(&self) -> u8
         ensures { result ≡ code_of self.now }
     {
@@ -48,7 +49,7 @@ impl GraphFault {
         }
     }
 
-    /// The name under which the fault is printed.
+    /// The name under which the fault is printed, that of its variant.
     pub fn name(&self) -> &'static str
         ensures { result.now ≡ name_of self.now }
     {

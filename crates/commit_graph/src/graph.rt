@@ -8,7 +8,8 @@ use osv_prim::{CommitRow, Ledger, Memory, Oid, Steps};
 use std::alloc::Global;
 use std::marker::Model;
 
-/// Commits with their parents, each after its parents, which contracts see as their list of rows. The
+/// Commits with their parents (git's documentation, "gitglossary": commit, parent), fewer than 2^32.
+/// Contracts see the list of their rows: ids differ, and each parent is the id of an earlier row. The
 /// rows are numbered from 0. What a row says is read only with a counter of steps.
 #[derive(Drop)]
 pub struct Graph {
@@ -32,14 +33,14 @@ impl Model for Graph {
 }
 
 impl Graph {
-    /// The graph without commits.
+    /// The graph without commits. Only want of memory is refused.
     pub fn empty(alloc: Global) -> Result<Graph, Memory>
         ensures { IfOk result (λ g. g ≡ []) }
     {
         Graph::with_capacity(alloc, 0)
     }
 
-    /// The graph without commits, with room for some.
+    /// The graph without commits, with room for so many.
     pub(crate) fn with_capacity(alloc: Global, count: usize) -> Result<Graph, Memory>
         ensures { IfOk result (λ g. g ≡ []) }
     {
@@ -50,7 +51,7 @@ impl Graph {
         })
     }
 
-    /// How many commits there are.
+    /// How many commits there are. Its contract also tells that the graph is legal.
     pub fn len(&self) -> u32
         ensures len { result ≡ length self.now }
         ensures legal { IsLegal self.now }
@@ -65,7 +66,8 @@ impl Graph {
         self.rows.is_empty()
     }
 
-    /// What the graph weighs: 64 for each row and 32 for each parent, at most 2^64 - 1.
+    /// What the graph weighs, by which the commits of a store are limited: 64 for each row and 32 for each
+    /// parent, at most 2^64 - 1.
     pub fn weight(&self) -> u64
         ensures { result ≡ min (weight_of self.now) (2 ^ 64 - 1) }
     {
@@ -73,7 +75,8 @@ impl Graph {
         rows.saturating_add((self.parents.total() as u64).saturating_mul(32))
     }
 
-    /// The number of a commit's row.
+    /// The number of a commit's row, where the graph has the commit. It is found by the commit's id,
+    /// without a step through the graph.
     pub fn number_of(&self, oid: &Oid) -> Option<u32>
         ensures number { result ≡ number_of self.now oid.now }
         ensures found { is_some result ≡ has self.now oid.now }
@@ -81,19 +84,10 @@ impl Graph {
         ensures row { IfSome result (λ n. id_at self.now n ≡ oid.now) }
         ensures legal { IsLegal self.now }
     {
-        self.place_of(oid)
-    }
-
-    fn place_of(&self, oid: &Oid) -> Option<u32>
-        ensures number { result ≡ number_of self.now oid.now }
-        ensures found { is_some result ≡ has self.now oid.now }
-        ensures within { IfSome result (λ n. n < length self.now) }
-        ensures legal { IsLegal self.now }
-    {
         self.ids.get_index_of(oid).map(|number| number as u32)
     }
 
-    /// The row with a number. It counts one graph step.
+    /// The row with a number, from 0. It counts one graph step.
     pub fn row_at<L: Ledger>(&self, number: u32, steps: &mut Steps<L>) -> &CommitRow
         requires { number < length self.now }
         ensures row { slice_get self.now number ≡ Some result.now }
@@ -103,7 +97,8 @@ impl Graph {
         &self.rows[number as usize]
     }
 
-    /// The numbers of a commit's parents, in order, each below its own. It counts one graph step.
+    /// The numbers of the parents of the row with a number, in the row's order, each below its own. It
+    /// counts one graph step.
     pub fn parents_at<L: Ledger>(&self, number: u32, steps: &mut Steps<L>) -> &[u32]
         requires { number < length self.now }
         ensures parents { map (id_at self.now) result.now ≡ parents_at self.now number }
@@ -122,7 +117,7 @@ impl Graph {
         self.rows.as_slice()
     }
 
-    /// As `parents_at`, without a count, for a copy of the whole graph.
+    /// As `parents_at`, without a step, for a copy of the whole graph.
     pub(crate) fn numbers_at(&self, number: usize) -> &[u32]
         requires { number < length self.now }
         ensures parents { map (id_at self.now) result.now ≡ parents_at self.now number }

@@ -11,8 +11,11 @@ use std::alloc::Global;
 
 impl Graph {
     /// The graph with rows joined: its own rows, and then each row whose commit isn't there yet. A row
-    /// whose commit is there with the same parents in the same order is passed over. The first row that
-    /// is faulty refuses them all. The graph itself stays as it is. It counts at most one graph step a row.
+    /// whose commit is there with the same parents in the same order is passed over. `most` is how many
+    /// commits the result may have, its own and new ones together; rows that are passed over don't count,
+    /// and a graph that has more already takes only such rows. The first faulty row refuses them all, by
+    /// the variant of `GraphFault` that tells why. The graph itself stays as it is. It copies the graph, and
+    /// counts at most one graph step for each of the given rows.
     pub fn extend<L: Ledger>(
         &self,
         alloc: Global,
@@ -31,34 +34,18 @@ impl Graph {
         ensures steps { steps.new.graph ≤ steps.old.graph + length rows.now }
         ensures records { steps.new.record_count ≡ steps.old.record_count }
     {
-        self.with_rows(alloc, rows, most, steps)
-    }
-
-    fn with_rows<L: Ledger>(
-        &self,
-        alloc: Global,
-        rows: &[CommitRow],
-        most: u32,
-        steps: &mut Steps<L>,
-    ) -> Result<Graph, GraphFault>
-        ensures joined { IfOk result (λ g. g ≡ joined self.now rows.now) }
-        ensures sound { OnOk result (IsSound self.now most rows.now) }
-        ensures fault { IfErr result (λ e. e ≢ GraphFault.Memory → IsFirstFault self.now most rows.now e) }
-        ensures legal { IfOk result IsLegal }
-        ensures steps { steps.new.graph ≤ steps.old.graph + length rows.now }
-        ensures records { steps.new.record_count ≡ steps.old.record_count }
-    {
         let mut graph = self.copy(alloc, rows.len())?;
         let mut numbers = Vec::new(alloc);
-        for (place, row) in rows.iter().enumerate() {
-            graph = joined_by(alloc, graph, row, place as u64, most, &mut numbers, steps)?;
+        for (index, row) in rows.iter().enumerate() {
+            graph = joined_by(alloc, graph, row, index as u64, most, &mut numbers, steps)?;
         }
         // Its contract tells that the graph is legal.
         let _ = graph.len();
         Ok(graph)
     }
 
-    /// The graph of rows, as `empty` and then `extend` give it, without a copy of the rows.
+    /// The graph of rows, as `empty` and then `extend` give it, with the same faults and without a copy of
+    /// the rows. It counts at most one graph step for each of them.
     pub fn of_rows<L: Ledger>(
         alloc: Global,
         rows: List<CommitRow>,
@@ -76,28 +63,12 @@ impl Graph {
         ensures steps { steps.new.graph ≤ steps.old.graph + length rows }
         ensures records { steps.new.record_count ≡ steps.old.record_count }
     {
-        Graph::of_each(alloc, rows, most, steps)
-    }
-
-    fn of_each<L: Ledger>(
-        alloc: Global,
-        rows: List<CommitRow>,
-        most: u32,
-        steps: &mut Steps<L>,
-    ) -> Result<Graph, GraphFault>
-        ensures joined { IfOk result (λ g. g ≡ joined [] rows) }
-        ensures sound { OnOk result (IsSound [] most rows) }
-        ensures fault { IfErr result (λ e. e ≢ GraphFault.Memory → IsFirstFault [] most rows e) }
-        ensures legal { IfOk result IsLegal }
-        ensures steps { steps.new.graph ≤ steps.old.graph + length rows }
-        ensures records { steps.new.record_count ≡ steps.old.record_count }
-    {
         let mut graph = Graph::with_capacity(alloc, rows.len())?;
         let mut numbers = Vec::new(alloc);
-        let mut place = 0u64;
+        let mut index = 0u64;
         for row in rows.into_vec() {
-            graph = joined_with(graph, row, place, most, &mut numbers, steps)?;
-            place += 1;
+            graph = joined_with(graph, row, index, most, &mut numbers, steps)?;
+            index += 1;
         }
         // Its contract tells that the graph is legal.
         let _ = graph.len();
@@ -148,18 +119,18 @@ fn joined_by<L: Ledger>(
     alloc: Global,
     graph: Graph,
     row: &CommitRow,
-    place: u64,
+    index: u64,
     most: u32,
     numbers: &mut Vec<u32>,
     steps: &mut Steps<L>,
 ) -> Result<Graph, GraphFault>
     ensures joined { IfOk result (λ g. g ≡ with_row graph row.now) }
-    ensures sound { OnOk result (fault_of graph most place row.now ≡ None) }
-    ensures fault { IfErr result (λ e. e ≢ GraphFault.Memory → fault_of graph most place row.now ≡ Some e) }
+    ensures sound { OnOk result (fault_of graph most index row.now ≡ None) }
+    ensures fault { IfErr result (λ e. e ≢ GraphFault.Memory → fault_of graph most index row.now ≡ Some e) }
     ensures steps { steps.new.graph ≤ steps.old.graph + 1 }
     ensures records { steps.new.record_count ≡ steps.old.record_count }
 {
-    if is_new(&graph, row, place, most, numbers, steps)? {
+    if is_new(&graph, row, index, most, numbers, steps)? {
         let row = copy_of(alloc, row)?;
         Ok(graph.with_row(row, numbers.as_slice())?)
     } else {
@@ -171,18 +142,18 @@ fn joined_by<L: Ledger>(
 fn joined_with<L: Ledger>(
     graph: Graph,
     row: CommitRow,
-    place: u64,
+    index: u64,
     most: u32,
     numbers: &mut Vec<u32>,
     steps: &mut Steps<L>,
 ) -> Result<Graph, GraphFault>
     ensures joined { IfOk result (λ g. g ≡ with_row graph row) }
-    ensures sound { OnOk result (fault_of graph most place row ≡ None) }
-    ensures fault { IfErr result (λ e. e ≢ GraphFault.Memory → fault_of graph most place row ≡ Some e) }
+    ensures sound { OnOk result (fault_of graph most index row ≡ None) }
+    ensures fault { IfErr result (λ e. e ≢ GraphFault.Memory → fault_of graph most index row ≡ Some e) }
     ensures steps { steps.new.graph ≤ steps.old.graph + 1 }
     ensures records { steps.new.record_count ≡ steps.old.record_count }
 {
-    if is_new(&graph, &row, place, most, numbers, steps)? {
+    if is_new(&graph, &row, index, most, numbers, steps)? {
         Ok(graph.with_row(row, numbers.as_slice())?)
     } else {
         Ok(graph)
@@ -193,7 +164,7 @@ fn joined_with<L: Ledger>(
 fn is_new<L: Ledger>(
     graph: &Graph,
     row: &CommitRow,
-    place: u64,
+    index: u64,
     most: u32,
     numbers: &mut Vec<u32>,
     steps: &mut Steps<L>,
@@ -202,8 +173,8 @@ fn is_new<L: Ledger>(
     ensures named { IfOk result (λ new. IsTrue new → map (id_at graph.now) numbers.new.items ≡ row.now.parents) }
     ensures below { IfOk result (λ new. IsTrue new → All (λ n. n < length graph.now) numbers.new.items) }
     ensures room { IfOk result (λ new. IsTrue new → length graph.now < most) }
-    ensures sound { OnOk result (fault_of graph.now most place row.now ≡ None) }
-    ensures fault { IfErr result (λ e. e ≢ GraphFault.Memory → fault_of graph.now most place row.now ≡ Some e) }
+    ensures sound { OnOk result (fault_of graph.now most index row.now ≡ None) }
+    ensures fault { IfErr result (λ e. e ≢ GraphFault.Memory → fault_of graph.now most index row.now ≡ Some e) }
     ensures steps { steps.new.graph ≤ steps.old.graph + 1 }
     ensures records { steps.new.record_count ≡ steps.old.record_count }
 {
@@ -212,16 +183,16 @@ fn is_new<L: Ledger>(
         if graph.row_at(number, steps).parents.as_slice() == parents {
             return Ok(false);
         }
-        return Err(GraphFault::ParentsDiffer { row: place });
+        return Err(GraphFault::ParentsDiffer { row: index });
     }
     if parents.contains(&row.oid) {
-        return Err(GraphFault::SelfParent { row: place });
+        return Err(GraphFault::SelfParent { row: index });
     }
     if !graph.find_all(parents, numbers)? {
-        return Err(GraphFault::UnknownParent { row: place });
+        return Err(GraphFault::UnknownParent { row: index });
     }
     if graph.len() >= most {
-        return Err(GraphFault::TooMany { row: place });
+        return Err(GraphFault::TooMany { row: index });
     }
     Ok(true)
 }

@@ -42,12 +42,12 @@ impl NumberLists {
         self.numbers.len()
     }
 
-    /// The list at a place, from 0.
-    pub(crate) fn at(&self, place: usize) -> &[u32]
-        requires { place < length self.now }
-        ensures { result.now ≡ slice_index_or self.now place [] }
+    /// The list at a index, from 0.
+    pub(crate) fn at(&self, index: usize) -> &[u32]
+        requires { index < length self.now }
+        ensures { result.now ≡ slice_index_or self.now index [] }
     {
-        list_at(self.numbers.as_slice(), self.ends.as_slice(), place)
+        list_at(self.numbers.as_slice(), self.ends.as_slice(), index)
     }
 
     /// Puts a list at the end.
@@ -64,20 +64,20 @@ impl NumberLists {
     }
 }
 
-fn list_at<'a>(numbers: &'a [u32], ends: &[usize], place: usize) -> &'a [u32]
+fn list_at<'a>(numbers: &'a [u32], ends: &[usize], index: usize) -> &'a [u32]
     requires cut { IsCut 0 ends.now (length numbers.now) }
-    requires there { place < length ends.now }
-    ensures { result.now ≡ slice_index_or (pieces 0 ends.now numbers.now) place [] }
+    requires there { index < length ends.now }
+    ensures { result.now ≡ slice_index_or (pieces 0 ends.now numbers.now) index [] }
 {
-    let start = start_of(ends, place);
-    let end = ends[place];
+    let start = start_of(ends, index);
+    let end = ends[index];
     &numbers[start..end]
 }
 
-// Where the list at a place starts.
-fn start_of(ends: &[usize], place: usize) -> usize
-    requires { place ≤ length ends.now }
-    ensures { result ≡ slice_index_or (0 ∷ ends.now) place 0 }
+// Where the list at a index starts.
+fn start_of(ends: &[usize], index: usize) -> usize
+    requires { index ≤ length ends.now }
+    ensures { result ≡ slice_index_or (0 ∷ ends.now) index 0 }
 {
-    if place == 0 { 0 } else { ends[place - 1] }
+    if index == 0 { 0 } else { ends[index - 1] }
 }

@@ -3,7 +3,8 @@ use Rattle.std.proofs.Common.{◌≡◌, ℕ, zero, suc, ◌<◌, ◌≤◌, ◌
 use Rattle.std.specs.List.{list_any, list_all}
 use Rattle.std.specs.Option.{option_map_or}
 use Rattle.std.specs.Str.{bytes_eq}
-use Rattle.std.proofs.lemmas.Bool.{false≢true, and_parts, and_from, or_cases, or_left, or_right, not-true, not_from_false, eqb-true, eq-eqb}
+use Rattle.std.proofs.lemmas.Bool.{false≢true, true≢false, and_parts, and_from, or_cases, or_left, or_right, not-true, not_from_false, eqb-true, eq-eqb}
+use Rattle.std.proofs.lemmas.List.{nil_from_length}
 use Rattle.std.proofs.lemmas.List.Elements.{All-head, All-tail, Contains-append_right, Contains-get_or}
 use Rattle.std.proofs.lemmas.List.Folds.{Any-from_list_any, list_any-from_Any}
 use Rattle.std.proofs.lemmas.Bool.Decides.{same_from_decides}
@@ -14,7 +15,8 @@ use Rattle.osv_prim.specs.declared.oid.CommitRow.{CommitRow}
 use Rattle.osv_prim.specs.declared.event.Event.{Event}
 use Rattle.osv_prim.specs.declared.event.EventKind.TheVariants.{Introduced, Fixed, LastAffected, Limit}
 use Rattle.git_range.specs.Affected.{is_start, reaches, leads, is_within_limits, is_affected}
-use Rattle.git_range.proofs.Ids.{row_of, has_row, related, root_parents, is_root, is_parent, some_row}
+use Rattle.commit_graph.proofs.Rows.{row_of, has_row}
+use Rattle.git_range.proofs.Ids.{related, root_parents, is_root, is_parent, some_row}
 use Rattle.git_range.proofs.Newest.{row_id, row_parents, parent_row, row_says, its_row}
 use Rattle.git_range.proofs.Searching.{Leads, leads_itself, leads_before, reached_by}
 
@@ -24,10 +26,6 @@ any_same p q [] same = refl
 any_same p q (x ∷ xs) same =
     ap (λ (b : Bool). b || list_any p xs) (same x (Contains-get_or (x ∷ xs) 0 x (omega arith)))
     ∙ ap (λ (b : Bool). q x || b) (any_same p q xs (λ y c. same y (Contains-append_right (x ∷ []) xs y c)))
-
-empty_length : (ps : List (List ℕ)) → eqb (length ps) 0 ≡ true → ps ≡ []
-empty_length [] e = refl
-empty_length (p ∷ ps) e = absurd (omega (arith, eqb-true (length (p ∷ ps)) 0 e))
 
 module _ (graph : List CommitRow) (legal : IsLegal graph) where
   -- ---- proper ancestors
@@ -155,7 +153,7 @@ module _ (graph : List CommitRow) (legal : IsLegal graph) where
           | inl named ↦ inl (subst (λ (x : List ℕ). is_named Introduced events x ≡ true) (sym (row_id graph k lt)) named)
           | inr all ↦
               let parts = and_parts (names_all Introduced events) (eqb (length r.parents) 0) all in
-              inr (parts.0, is_root graph k lt (row_parents graph k lt ∙ empty_length r.parents parts.1))
+              inr (parts.0, is_root graph k lt (row_parents graph k lt ∙ nil_from_length r.parents (eqb-true (length r.parents) 0 parts.1)))
         ]
 
     of_start : (k : ℕ) (lt : k < length graph) → IsStart graph events (id_at graph k) → is_start events (some_row graph k lt) ≡ true
@@ -282,8 +280,21 @@ affected_by_walks graph legal events c = (forth, back)
         and_from (list_all is_read events && is_within_limits graph events c) (reaches events (reverse graph) c)
         (and_from (list_all is_read events) (is_within_limits graph events c) a.read (by_within graph legal events c a.within_limits)) (reaches_it graph legal events c a.reached)
 
--- an answer that is true exactly where walks say so
-pub value_by_walks : {E : Type 0} (graph : List CommitRow) (events : List Event) (c : List ℕ) (answer : Result Bool E) → IsLegal graph
-    → IfOk answer (λ b. IsTrue b ↔ IsAffected graph events c) → IfOk answer (λ b. b ≡ is_affected graph events c)
-value_by_walks graph events c (Ok b) legal exactly = same_from_decides b (is_affected graph events c) exactly (affected_by_walks graph legal events c)
-value_by_walks graph events c (Err e) legal exactly = tt
+-- ---- what is answered
+
+module _ (graph : List CommitRow) (events : List Event) (c : List ℕ) where
+  -- an answer that is true exactly where walks say so
+  pub value_by_walks : {E : Type 0} (answer : Result Bool E) → IsLegal graph → IfOk answer (λ b. IsTrue b ↔ IsAffected graph events c) → IfOk answer (λ b. b ≡ is_affected graph events c)
+  value_by_walks (Ok b) legal exactly = same_from_decides b (is_affected graph events c) exactly (affected_by_walks graph legal events c)
+  value_by_walks (Err e) legal exactly = tt
+
+  pub unread : list_all is_read events ≡ false → IsTrue false ↔ IsAffected graph events c
+  unread e = (λ h. absurd (false≢true h), λ a. absurd (true≢false (sym a.read ∙ e)))
+
+  pub outside : (within : Bool) → IsTrue within ↔ IsWithinLimits graph events c → within ≡ false → IsTrue false ↔ IsAffected graph events c
+  outside within exactly e = (λ h. absurd (false≢true h), λ a. absurd (true≢false (sym (exactly.1 a.within_limits) ∙ e)))
+
+  pub inside : {E : Type 0} (within : Bool) (answer : Result Bool E) → list_all is_read events ≡ true → IsTrue within ↔ IsWithinLimits graph events c → within ≡ true
+      → IfOk answer (λ b. IsTrue b ↔ IsReached graph events c) → IfOk answer (λ b. IsTrue b ↔ IsAffected graph events c)
+  inside within (Ok b) read exactly e reached = (λ h. record { read = read; within_limits = exactly.0 e; reached = reached.0 h }, λ a. reached.1 a.reached)
+  inside within (Err x) read exactly e reached = tt

@@ -7,8 +7,10 @@ use Rattle.osv_prim.specs.declared.oid.CommitRow.{CommitRow}
 use Rattle.osv_prim.specs.declared.event.Event.{Event}
 use Rattle.osv_prim.specs.declared.event.EventKind.TheVariants.{Limit}
 use Rattle.git_range.specs.Rows.{AreRows}
-use Rattle.git_range.proofs.Ids.{has_row, related, one_row, is_parent, has_parent, parent_number}
-use Rattle.git_range.proofs.Marking.{IsMarked, still_marked, now_marked, why_marked}
+use Rattle.commit_graph.proofs.Rows.{has_row}
+use Rattle.git_range.proofs.Ids.{related, one_row, is_parent, has_parent}
+use Rattle.git_range.proofs.Marking.{IsMarked, still_marked, why_marked}
+use Rattle.git_range.proofs.Parents.{was_marked, parent_marked}
 
 -- a walk from a row's commit to one that a limit names, of at least two commits where the row is the end
 record Ahead (graph : List CommitRow) (events : List Event) (end n : ℕ) : Type 0 where
@@ -72,9 +74,6 @@ module _ (graph : List CommitRow) (legal : IsLegal graph) (events : List Event) 
     at_within : at < length graph
     at_within = omega (arith, s.within)
 
-    below : (n : ℕ) → Contains ns n → n < at
-    below n c = subst (λ (k : ℕ). k < at) c.2 (earlier c.0 n c.1)
-
     parent_ahead : (n : ℕ) → Contains ns n → Ahead graph events end n
     parent_ahead n c =
         let a = s.sound at at_within mark in
@@ -91,21 +90,6 @@ module _ (graph : List CommitRow) (legal : IsLegal graph) (events : List Event) 
               proper = λ e. omega arith;
             }
 
-    was_marked : (n : ℕ) → at ≤ n → get_or new n false ≡ true → get_or marks n false ≡ true
-    was_marked n le h =
-        elim (why_marked ns marks new marked n h) [
-          | inl before ↦ before
-          | inr c ↦ absurd (omega (arith, below n c))
-        ]
-
-    parent_marked : (m : ℕ) → m < length graph → IsParent graph (id_at graph m) (id_at graph at) → get_or new m false ≡ true
-    parent_marked m lt parent =
-        let r = related graph legal (id_at graph m) (id_at graph at) parent in
-        let same : r.child ≡ at = one_row graph legal r.child at r.within at_within r.child_id in
-        let p = parent_number graph ns (parents_at graph at) named (id_at graph m) (subst (λ (k : ℕ). Contains (parents_at graph k) (id_at graph m)) same r.named) in
-        let is : p.0 ≡ m = one_row graph legal p.0 m (omega (arith, below p.0 p.1, at_within)) lt p.2 in
-        subst (λ (k : ℕ). get_or new k false ≡ true) is (now_marked ns marks new marked p.0 p.1)
-
     -- a row's parents are marked, and it is passed
     pub descending_on : length new ≡ length marks → Descending graph events end at new
     descending_on size =
@@ -121,8 +105,8 @@ module _ (graph : List CommitRow) (legal : IsLegal graph) (events : List Event) 
           limits = λ n lt other h. still_marked ns marks new marked n (s.limits n lt other h);
           passed = λ n m le lt h m_lt parent.
               elim (cases_eq n at) [
-                | inl same ↦ parent_marked m m_lt (subst (λ (k : ℕ). IsParent graph (id_at graph m) (id_at graph k)) same parent)
-                | inr other ↦ still_marked ns marks new marked m (s.passed n m (omega arith) lt (was_marked n le h) m_lt parent)
+                | inl same ↦ parent_marked at ns earlier graph legal at_within named marks new marked m m_lt (subst (λ (k : ℕ). IsParent graph (id_at graph m) (id_at graph k)) same parent)
+                | inr other ↦ still_marked ns marks new marked m (s.passed n m (omega arith) lt (was_marked at ns earlier marks new marked n le h) m_lt parent)
               ];
         }
 

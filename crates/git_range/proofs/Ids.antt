@@ -1,29 +1,17 @@
--- The rows of a legal graph by their ids.
-use Rattle.std.proofs.Common.{◌≡◌, ℕ, ◌<◌, inl, inr, List, [], length, map, take, get_or, Contains, Some, sym, ap, subst, ◌∙◌, arith}
+-- The rows of a legal graph by their ids, and parents by their rows.
+use Rattle.std.proofs.Common.{◌≡◌, ℕ, ◌<◌, inl, inr, List, [], length, map, take, get_or, Contains, sym, ap, subst, ◌∙◌, arith}
 use Rattle.std.proofs.lemmas.Bool.{cases_order}
 use Rattle.std.proofs.lemmas.List.{length-map, length-take, get_or-map, get_or-take, get_or_default}
 use Rattle.std.proofs.lemmas.List.Elements.{All-contains, Contains-get_or}
-use Rattle.std.proofs.lemmas.List.Quantifiers.{position-Some}
-use Rattle.std.proofs.lemmas.Slice.Eq.{bytes_eq-Decides}
-use Rattle.std.specs.Str.{bytes_eq}
 use Rattle.osv_prim.specs.declared.oid.CommitRow.{CommitRow}
-use Rattle.osv_prim.specs.Graphs.{ids, number_of, id_at, parents_at, IsLegal, IsParent, IsRoot}
-
-pub length-ids : (graph : List CommitRow) → length (ids graph) ≡ length graph
-length-ids graph = length-map graph (λ (r : CommitRow). r.oid)
-
--- the row of a commit
-pub row_of : (graph : List CommitRow) (a : List ℕ) → Contains (ids graph) a → (n : ℕ) × (n < length graph) × (id_at graph n ≡ a)
-row_of graph a c = (c.0, omega (arith, c.1, length-ids graph), get_or_default (ids graph) c.0 [] a c.1 ∙ c.2)
-
-pub has_row : (graph : List CommitRow) (n : ℕ) → n < length graph → Contains (ids graph) (id_at graph n)
-has_row graph n lt = Contains-get_or (ids graph) n [] (omega (arith, length-ids graph))
+use Rattle.osv_prim.specs.Graphs.{ids, id_at, parents_at, IsLegal, IsParent, IsRoot}
+use Rattle.commit_graph.proofs.Rows.{length-ids, id_at-row, parents_at-row}
 
 pub id_of_row : (graph : List CommitRow) (k : ℕ) (r : CommitRow) → k < length graph → get_or graph k r ≡ r → id_at graph k ≡ r.oid
-id_of_row graph k r lt at = get_or-map (λ (x : CommitRow). x.oid) graph k r [] lt ∙ ap (λ (x : CommitRow). x.oid) at
+id_of_row graph k r lt at = id_at-row graph k r lt ∙ ap (λ (x : CommitRow). x.oid) at
 
 pub parents_of_row : (graph : List CommitRow) (k : ℕ) (r : CommitRow) → k < length graph → get_or graph k r ≡ r → parents_at graph k ≡ r.parents
-parents_of_row graph k r lt at = get_or-map (λ (x : CommitRow). x.parents) graph k r [] lt ∙ ap (λ (x : CommitRow). x.parents) at
+parents_of_row graph k r lt at = parents_at-row graph k r lt ∙ ap (λ (x : CommitRow). x.parents) at
 
 -- two rows: a commit's, and its parent's
 pub record Related (graph : List CommitRow) (p c : List ℕ) : Type 0 where
@@ -103,9 +91,3 @@ module _ (graph : List CommitRow) (ns : List ℕ) (ps : List (List ℕ)) (named 
       let d = subst (λ (xs : List (List ℕ)). Contains xs p) (sym named) c in
       let lt : d.0 < length ns = omega (arith, d.1, length-map ns (id_at graph)) in
       (get_or ns d.0 0, Contains-get_or ns d.0 0 lt, sym (get_or-map (id_at graph) ns d.0 0 p lt) ∙ d.2)
-
--- a commit's number leads back to it
-pub found : (graph : List CommitRow) (c : List ℕ) (n : ℕ) → number_of graph c ≡ Some n → (n < length graph) × (id_at graph n ≡ c)
-found graph c n e =
-    let p = position-Some (bytes_eq c) (ids graph) n [] e in
-    (omega (arith, p.0, length-ids graph), sym ((bytes_eq-Decides c (id_at graph n)).0 p.1))

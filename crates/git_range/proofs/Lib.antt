@@ -4,4 +4,5 @@ pub mod Ids
 pub mod Marking
 pub mod Naming
 pub mod Newest
+pub mod Parents
 pub mod Searching

@@ -13,7 +13,8 @@ use Rattle.osv_prim.specs.declared.event.Event.{Event}
 use Rattle.osv_prim.specs.declared.event.EventKind.{EventKind}
 use Rattle.osv_prim.specs.declared.event.EventKind.TheVariants.{Fixed, LastAffected}
 use Rattle.git_range.specs.Rows.{AreRows, IsNamedRow, is_closed}
-use Rattle.git_range.proofs.Ids.{length-ids, one_row}
+use Rattle.commit_graph.proofs.Rows.{length-ids}
+use Rattle.git_range.proofs.Ids.{one_row}
 
 -- ---- the row that one event names
 

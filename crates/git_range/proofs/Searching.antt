@@ -1,15 +1,17 @@
 -- Going down from a commit to where a range begins.
 use Rattle.std.proofs.Common.{◌≡◌, ℕ, ◌+◌, ◌<◌, ◌≤◌, inl, inr, Bool, true, false, not, ◌&&◌, ◌||◌, eqb, List, [], ◌∷◌, length, map, replicate, get_or, set, All, Contains, refl, sym, ap, subst, ◌∙◌, arith}
-use Rattle.std.proofs.lemmas.Bool.{cases_lt, cases_eq, and_parts, or_cases, and_from, eq-eqb, eqb-true, ne_eqb, true≢false, false≢true}
-use Rattle.std.proofs.lemmas.List.{length-map, length-set, length-replicate, get_or-replicate, get_or_past, get_or-set_same, get_or-set_other}
+use Rattle.std.proofs.lemmas.Bool.{cases_lt, cases_eq, and_parts, and_from, and_left, and_right, or_cases, or_parts, or_from, or_left, or_right, not_from_true, eq-eqb, eqb-true, ne_eqb, true≢false, false≢true}
+use Rattle.std.proofs.lemmas.List.{nil_from_length, length-map, length-set, length-replicate, get_or-replicate, get_or_past, get_or-set_same, get_or-set_other}
 use Rattle.std.proofs.lemmas.List.Elements.{All-cons, All-nil, All-head, All-tail}
 use Rattle.osv_prim.specs.Graphs.{ids, id_at, parents_at, IsLegal, IsParent, IsWalk, first_of, last_of, before_last, is_named, names_all, IsStart, IsReached}
 use Rattle.osv_prim.specs.declared.oid.CommitRow.{CommitRow}
 use Rattle.osv_prim.specs.declared.event.Event.{Event}
 use Rattle.osv_prim.specs.declared.event.EventKind.TheVariants.{Introduced, Fixed, LastAffected}
 use Rattle.git_range.specs.Rows.{is_closed}
-use Rattle.git_range.proofs.Ids.{has_row, related, one_row, root_parents, is_root, is_parent, has_parent, parent_number}
-use Rattle.git_range.proofs.Marking.{IsMarked, still_marked, now_marked, why_marked}
+use Rattle.commit_graph.proofs.Rows.{has_row}
+use Rattle.git_range.proofs.Ids.{related, one_row, root_parents, is_root, is_parent, has_parent}
+use Rattle.git_range.proofs.Marking.{IsMarked, still_marked, why_marked}
+use Rattle.git_range.proofs.Parents.{below, was_marked, parent_marked}
 
 -- a walk from a to c that meets no fixed commit, and a last affected one at most at its end
 pub record Leads (graph : List CommitRow) (events : List Event) (a c : List ℕ) : Type 0 where
@@ -61,34 +63,26 @@ reached_by graph events a c lead start =
 
 -- ---- what is closed
 
+-- of `a || (not x && b)`
 neither : (a b x : Bool) → (a || (not x && b)) ≡ false → x ≡ false → (a ≡ false) × (b ≡ false)
-neither true b x h e = absurd (true≢false h)
-neither false b false h e = (refl, h)
-neither false b true h e = absurd (true≢false e)
-
-just : (a b x : Bool) → (a || (not x && b)) ≡ false → a ≡ false
-just true b x h = absurd (true≢false h)
-just false b x h = refl
+neither a b x h e = let p = or_parts a (not x && b) h in (p.0, sym (ap (λ (y : Bool). not y && b) e) ∙ p.1)
 
 open_end : (a b x : Bool) → x ≡ true → a ≡ false → (a || (not x && b)) ≡ false
-open_end false b true e h = refl
-open_end false b false e h = absurd (false≢true e)
-open_end true b x e h = absurd (true≢false h)
+open_end a b x e h = or_from a (not x && b) h (and_left (not x) b (not_from_true x e))
 
 open_before : (a b x : Bool) → a ≡ false → b ≡ false → (a || (not x && b)) ≡ false
-open_before false false true p q = refl
-open_before false false false p q = refl
-open_before true b x p q = absurd (true≢false p)
-open_before false true x p q = absurd (true≢false q)
+open_before a b x p q = or_from a (not x && b) p (and_right (not x) b q)
 
 -- a fixed commit isn't reached
 pub closed_itself : (graph : List CommitRow) (events : List Event) (end : ℕ) → is_closed graph events end end ≡ true → IsReached graph events (id_at graph end) → ⊥
 closed_itself graph events end shut reached = by reached.walk reached.is_walk reached.ends reached.unfixed
   where
     fixed : (a b x : Bool) → x ≡ true → (a || (not x && b)) ≡ true → a ≡ true
-    fixed true b x e h = refl
-    fixed false b true e h = absurd (false≢true h)
-    fixed false b false e h = absurd (false≢true e)
+    fixed a b x e h =
+        elim (or_cases a (not x && b) h) [
+          | inl is ↦ is
+          | inr some ↦ absurd (false≢true (sym (and_left (not x) b (not_from_true x e)) ∙ some))
+        ]
 
     is_fixed : is_named Fixed events (id_at graph end) ≡ true
     is_fixed = fixed (is_named Fixed events (id_at graph end)) (is_named LastAffected events (id_at graph end)) (eqb end end) (eq-eqb end end refl) shut
@@ -121,7 +115,7 @@ searching_first graph events end marks there unclosed size itself only =
       sound = λ n lt mark free.
           subst (λ (k : ℕ). Leads graph events (id_at graph k) (id_at graph end)) (sym (only n mark))
           (leads_itself graph events (id_at graph end) (has_row graph end there)
-          (just (is_named Fixed events (id_at graph end)) (is_named LastAffected events (id_at graph end)) (eqb end end) unclosed));
+          (or_parts (is_named Fixed events (id_at graph end)) (not (eqb end end) && is_named LastAffected events (id_at graph end)) unclosed).0);
       no_start = λ n le lt. absurd (omega arith);
       passed = λ n m le lt. absurd (omega arith);
     }
@@ -171,31 +165,12 @@ module _ (graph : List CommitRow) (legal : IsLegal graph) (events : List Event) 
     at_within : at < end + 1
     at_within = omega (arith, s.within)
 
-    below : (n : ℕ) → Contains ns n → n < at
-    below n c = subst (λ (k : ℕ). k < at) c.2 (earlier c.0 n c.1)
-
     parent_leads : (n : ℕ) → Contains ns n → is_closed graph events end n ≡ false → Leads graph events (id_at graph n) (id_at graph end)
     parent_leads n c n_free =
-        let lower = below n c in
+        let lower = below at ns earlier n c in
         let free_of = neither (is_named Fixed events (id_at graph n)) (is_named LastAffected events (id_at graph n)) (eqb n end) n_free (ne_eqb n end (λ e. omega (arith, at_within))) in
         leads_before graph events (id_at graph n) (id_at graph at) (id_at graph end)
         (is_parent graph at (omega (arith, at_within)) (id_at graph n) (has_parent graph ns (parents_at graph at) named n c)) free_of.0 free_of.1 (s.sound at at_within mark free)
-
-    -- a mark of a row that was passed is an old one
-    was_marked : (n : ℕ) → at ≤ n → get_or new n false ≡ true → get_or marks n false ≡ true
-    was_marked n le h =
-        elim (why_marked ns marks new marked n h) [
-          | inl before ↦ before
-          | inr c ↦ absurd (omega (arith, below n c))
-        ]
-
-    parent_marked : (m : ℕ) → m < end + 1 → IsParent graph (id_at graph m) (id_at graph at) → get_or new m false ≡ true
-    parent_marked m lt parent =
-        let r = related graph legal (id_at graph m) (id_at graph at) parent in
-        let same : r.child ≡ at = one_row graph legal r.child at r.within (omega (arith, at_within)) r.child_id in
-        let p = parent_number graph ns (parents_at graph at) named (id_at graph m) (subst (λ (k : ℕ). Contains (parents_at graph k) (id_at graph m)) same r.named) in
-        let is : p.0 ≡ m = one_row graph legal p.0 m (omega (arith, below p.0 p.1, at_within)) (omega arith) p.2 in
-        subst (λ (k : ℕ). get_or new k false ≡ true) is (now_marked ns marks new marked p.0 p.1)
 
     -- a row's parents are marked, and it is passed
     pub searching_on : length new ≡ length marks → (IsStart graph events (id_at graph at) → ⊥) → Searching graph events end at new
@@ -212,12 +187,12 @@ module _ (graph : List CommitRow) (legal : IsLegal graph) (events : List Event) 
           no_start = λ n le lt h n_free.
               elim (cases_eq n at) [
                 | inl same ↦ λ start. not_here (subst (λ (k : ℕ). IsStart graph events (id_at graph k)) same start)
-                | inr other ↦ s.no_start n (omega arith) lt (was_marked n le h) n_free
+                | inr other ↦ s.no_start n (omega arith) lt (was_marked at ns earlier marks new marked n le h) n_free
               ];
           passed = λ n m le lt h n_free m_lt parent.
               elim (cases_eq n at) [
-                | inl same ↦ parent_marked m m_lt (subst (λ (k : ℕ). IsParent graph (id_at graph m) (id_at graph k)) same parent)
-                | inr other ↦ still_marked ns marks new marked m (s.passed n m (omega arith) lt (was_marked n le h) n_free m_lt parent)
+                | inl same ↦ parent_marked at ns earlier graph legal (omega (arith, at_within)) named marks new marked m (omega arith) (subst (λ (k : ℕ). IsParent graph (id_at graph m) (id_at graph k)) same parent)
+                | inr other ↦ still_marked ns marks new marked m (s.passed n m (omega arith) lt (was_marked at ns earlier marks new marked n le h) n_free m_lt parent)
               ];
         }
 
@@ -281,24 +256,12 @@ module _ (graph : List CommitRow) (legal : IsLegal graph) (events : List Event) 
           | inl one ↦ inl (sym is ∙ one)
           | inr some ↦
               let parts = and_parts roots (eqb (length ns) 0) some in
-              inr (sym all ∙ parts.0, is_root graph at lt (sym named ∙ none ns parts.1))
+              inr (sym all ∙ parts.0, is_root graph at lt (sym named ∙ ap (map (id_at graph)) (nil_from_length ns (eqb-true (length ns) 0 parts.1))))
         ]
-      where
-        none : (xs : List ℕ) → eqb (length xs) 0 ≡ true → map (id_at graph) xs ≡ []
-        none [] e = refl
-        none (x ∷ xs) e = absurd (omega (arith, eqb-true (length (x ∷ xs)) 0 e))
 
     pub starts_not : (introduced || (roots && eqb (length ns) 0)) ≡ false → IsStart graph events (id_at graph at) → ⊥
-    starts_not h (inl one) = true≢false (sym (first_true introduced (roots && eqb (length ns) 0) (is ∙ one)) ∙ h)
+    starts_not h (inl one) = true≢false (sym (or_left introduced (roots && eqb (length ns) 0) (is ∙ one)) ∙ h)
+    starts_not h (inr root) = true≢false (sym (or_right introduced (roots && eqb (length ns) 0) (and_from roots (eqb (length ns) 0) (all ∙ root.0) empty)) ∙ h)
       where
-        first_true : (a b : Bool) → a ≡ true → (a || b) ≡ true
-        first_true true b e = refl
-        first_true false b e = absurd (false≢true e)
-    starts_not h (inr root) = true≢false (sym (second_true introduced (roots && eqb (length ns) 0) (and_from roots (eqb (length ns) 0) (all ∙ root.0) empty)) ∙ h)
-      where
-        second_true : (a b : Bool) → b ≡ true → (a || b) ≡ true
-        second_true true b e = refl
-        second_true false b e = e
-
         empty : eqb (length ns) 0 ≡ true
         empty = eq-eqb (length ns) 0 (sym (length-map ns (id_at graph)) ∙ ap (λ (xs : List (List ℕ)). length xs) (named ∙ root_parents graph legal at lt root.1))

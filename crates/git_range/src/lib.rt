@@ -1,4 +1,10 @@
 //! Which commits a GIT range affects, by walks through a graph of commits.
+//!
+//! ```
+//! if let Some(number) = graph.number_of(&commit) {
+//!     let affected = affects(alloc, &graph, range.events.as_slice(), number, steps)?;
+//! }
+//! ```
 #![tactic(auto)]
 
 mod affected;

@@ -5,25 +5,25 @@ use Rattle.commit_graph.proofs.number_lists.list_at.Goals as goal
 
 pub offset_bounds-numbers-start : goal.offset_bounds-numbers-start
 offset_bounds-numbers-start c =
-    let p = piece_at 0 c.args.ends.now c.args.numbers.now c.args.place c.requires.cut c.requires.there in
+    let p = piece_at 0 c.args.ends.now c.args.numbers.now c.args.index c.requires.cut c.requires.there in
     omega (arith, p.ordered, p.within, c.start_of-start.ensures)
 
 pub slice_bounds-result-count : goal.slice_bounds-result-count
 slice_bounds-result-count c =
-    let p = piece_at 0 c.args.ends.now c.args.numbers.now c.args.place c.requires.cut c.requires.there in
+    let p = piece_at 0 c.args.ends.now c.args.numbers.now c.args.index c.requires.cut c.requires.there in
     omega (arith, p.ordered, c.start_of-start.ensures)
 
 pub slice_bounds-result-start : goal.slice_bounds-result-start
 slice_bounds-result-start c =
-    let p = piece_at 0 c.args.ends.now c.args.numbers.now c.args.place c.requires.cut c.requires.there in
+    let p = piece_at 0 c.args.ends.now c.args.numbers.now c.args.index c.requires.cut c.requires.there in
     omega (arith, p.ordered, c.start_of-start.ensures)
 
 pub slice_bounds-result-end : goal.slice_bounds-result-end
 slice_bounds-result-end c =
-    let p = piece_at 0 c.args.ends.now c.args.numbers.now c.args.place c.requires.cut c.requires.there in
+    let p = piece_at 0 c.args.ends.now c.args.numbers.now c.args.index c.requires.cut c.requires.there in
     omega (arith, p.within)
 
 pub returns : goal.returns
 returns c =
-    let p = piece_at 0 c.args.ends.now c.args.numbers.now c.args.place c.requires.cut c.requires.there in
-    ap (λ (start : ℕ). slice_range {X = ℕ} c.args.numbers.now start (get_or c.args.ends.now c.args.place 0)) c.start_of-start.ensures ∙ sym p.is
+    let p = piece_at 0 c.args.ends.now c.args.numbers.now c.args.index c.requires.cut c.requires.there in
+    ap (λ (start : ℕ). slice_range {X = ℕ} c.args.numbers.now start (get_or c.args.ends.now c.args.index 0)) c.start_of-start.ensures ∙ sym p.is

@@ -1,5 +1,5 @@
 use Rattle.std.proofs.Common.{sym, ◌∙◌}
-use Rattle.git_range.proofs.Ids.{found}
+use Rattle.commit_graph.proofs.Rows.{found}
 use Rattle.git_range.proofs.Naming.{names_row}
 use Rattle.git_range.proofs.events.row_named.Goals as goal
 

@@ -4,7 +4,7 @@ use Rattle.std.proofs.lemmas.List.{map_push, take_more}
 use Rattle.std.proofs.lemmas.List.Elements.{All-push}
 use Rattle.std.proofs.lemmas.List.Folds.{list_all_at, list_all_more}
 use Rattle.osv_prim.specs.Graphs.{has, id_at}
-use Rattle.commit_graph.proofs.Numbers.{found}
+use Rattle.commit_graph.proofs.Rows.{found}
 use Rattle.commit_graph.proofs.graph.Graph.find_all.Goals as goal
 
 pub returns-in-None-clause-all : goal.returns-in-None-clause-all

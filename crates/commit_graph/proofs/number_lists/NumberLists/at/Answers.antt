@@ -8,4 +8,4 @@ list_at-requires-clause-there c =
 
 pub returns : goal.returns
 returns c =
-    rw (c.list_at.ensures, c.as_slice.ensures.value, c.as_slice-2.ensures.value) (ap (λ (lists : List (List ℕ)). get_or lists c.args.place []) c.self.view_is)
+    rw (c.list_at.ensures, c.as_slice.ensures.value, c.as_slice-2.ensures.value) (ap (λ (lists : List (List ℕ)). get_or lists c.args.index []) c.self.view_is)
