@@ -98,13 +98,13 @@ last-from_mem kept (r ∷ later) s a m =
           ]
     ]
 
-stays : (kept later : List Advisory) (s : Advisory) → Mem s kept → has_id s.id later ≡ false → Mem s (records_from kept later)
+pub stays : (kept later : List Advisory) (s : Advisory) → Mem s kept → has_id s.id later ≡ false → Mem s (records_from kept later)
 stays kept [] s m none = m
 stays kept (r ∷ later) s m none =
     let d = either_false (bytes_eq s.id r.id) (has_id s.id later) none in
     stays (placed r kept) later s (mem-placed_old r s kept d.0 m) d.1
 
-comes : (kept before after : List Advisory) (s : Advisory) → has_id s.id after ≡ false → Mem s (records_from kept (before ++ s ∷ after))
+pub comes : (kept before after : List Advisory) (s : Advisory) → has_id s.id after ≡ false → Mem s (records_from kept (before ++ s ∷ after))
 comes kept [] after s none = stays (placed s kept) after s (mem-placed s kept) none
 comes kept (r ∷ before) after s none = comes (placed r kept) before after s none
 
