@@ -17,3 +17,38 @@ def built():
     if done.returncode:
         sys.exit(f"{words[0]}: status {done.returncode}")
     return os.path.join(TOP, "crates", "osv_service", "out", "osv_service")
+
+
+def standing_on(name):
+    """A crate of this repository and all that it stands on."""
+    uses = {}
+    with open(os.path.join(TOP, "crates.txt")) as lines:
+        for line in lines:
+            head, _, rest = line.partition("#")[0].partition(":")
+            if head.split():
+                uses[head.split()[0]] = rest.split()
+    found, left = set(), [name]
+    while left:
+        crate = left.pop()
+        if crate in uses and crate not in found:
+            found.add(crate)
+            left += uses[crate]
+    return found
+
+
+def built_test(name):
+    """The program of a crate `tests_*`: the file in its name in capitals, as $TESTS_NAMES, or else this
+    repository's, built where it is missing or older than its sources."""
+    named = os.environ.get(name.upper())
+    if named:
+        return os.path.abspath(named)
+    folder = os.path.join(TOP, "crates", name)
+    program = os.path.join(folder, "out", name)
+    parts = [os.path.join(TOP, "crates", crate, part) for crate in standing_on(name) for part in ("src", "specs", "proofs")]
+    files = [os.path.join(at, file) for part in parts for at, _, inside in os.walk(part) for file in inside]
+    if not os.path.exists(program) or any(os.path.getmtime(file) > os.path.getmtime(program) for file in files):
+        done = subprocess.run(["rt", "run"], cwd=folder, stdin=subprocess.DEVNULL, stdout=subprocess.DEVNULL)
+        if done.returncode:
+            sys.exit(f"rt run in crates/{name}: status {done.returncode}")
+        os.utime(program)
+    return program
