@@ -1,31 +1,49 @@
-ghost use Rattle.std.specs.Prelude.{◌≡◌, Some, None, drop, vec_len, ◌≤◌};
+ghost use Rattle.std.specs.Prelude.{◌≡◌, Ok, Some, None, length, min};
+ghost use Rattle.std.specs.Io.{ReadsAtMost, WritesAtMost};
+ghost use Rattle.std.specs.Io.KnownBytes.{ReadConsumes};
 
 use crate::memory::give;
 use crate::sink::Sink;
 use crate::source::{Failed, Source};
+use std::marker::Model;
 
-/// A source over bytes in memory that never fails: its count of faults stays 0.
+/// A source over bytes in memory that never fails: its count of faults stays 0. Contracts see it as
+/// the bytes that are still to come.
 #[derive(Drop)]
 pub struct CalmSource {
     bytes: Vec<u8>,
     at: usize,
-    ghost within: { at ≤ vec_len bytes },
+}
+
+impl Model for CalmSource {
+    ghost use Rattle.std.specs.Prelude.{List, ℕ, ◌≤◌, drop, vec_len};
+
+    ghost Value = { List ℕ };
+
+    ghost view = { λ s. drop s.at s.bytes.items };
+
+    ghost invariant = { λ s. s.at ≤ vec_len s.bytes };
 }
 
 impl CalmSource {
+    /// A source that gives the bytes of a vector, without a copy of them.
     pub fn new(bytes: Vec<u8>) -> CalmSource
-        ensures { ⟦<CalmSource as Source>⟧.left result ≡ Some bytes.items }
+        ensures { result ≡ bytes.items }
     {
         CalmSource { bytes, at: 0 }
     }
 }
 
 impl Source for CalmSource {
-    ghost left = { λ s. Some (drop s.at s.bytes.items) };
+    ghost left = { λ s. Some s };
 
     ghost faults = { λ _. 0 };
 
-    fn read(&mut self, into: &mut [u8]) -> Result<usize, Failed> {
+    /// As of every source. It gives as many bytes as there are and as the piece has room for.
+    fn read(&mut self, into: &mut [u8]) -> Result<usize, Failed>
+        ensures bytes { ReadConsumes (Some self.old) (Some self.new) result into.new }
+        ensures count { result ≡ Ok (min (length into.new) (length self.old)) }
+    {
         let count = give(into, &self.bytes[self.at..], into.len());
         self.at += count;
         Ok(count)
@@ -37,6 +55,7 @@ impl Source for CalmSource {
 pub struct CalmSink;
 
 impl CalmSink {
+    /// The sink. All of them are the same.
     pub fn new() -> CalmSink {
         CalmSink
     }
@@ -47,7 +66,10 @@ impl Sink for CalmSink {
 
     ghost faults = { λ _. 0 };
 
-    fn write(&mut self, piece: &[u8]) -> Result<usize, Failed> {
+    /// As of every sink. It takes all of the piece.
+    fn write(&mut self, piece: &[u8]) -> Result<usize, Failed>
+        ensures { result ≡ Ok (length piece.now) }
+    {
         Ok(piece.len())
     }
 }

@@ -12,6 +12,7 @@ pub struct ReadEnd<R> {
 }
 
 impl<R: Read> ReadEnd<R> {
+    /// A source over a reader. No fault is counted yet.
     pub fn new(reader: R) -> ReadEnd<R>
         ensures left { ⟦<ReadEnd<R> as Source>⟧.left result ≡ R.remaining reader }
         ensures faults { ⟦<ReadEnd<R> as Source>⟧.faults result ≡ 0 }
@@ -45,6 +46,7 @@ pub struct WriteEnd<W> {
 }
 
 impl<W: Write> WriteEnd<W> {
+    /// A sink over a writer. No fault is counted yet.
     pub fn new(writer: W) -> WriteEnd<W>
         ensures held { ⟦<WriteEnd<W> as Sink>⟧.held result ≡ W.contents writer }
         ensures faults { ⟦<WriteEnd<W> as Sink>⟧.faults result ≡ 0 }

@@ -1,4 +1,9 @@
-//! Sources that bytes come from and sinks that bytes go to, each with a count of its faults.
+//! Sources that bytes come from and sinks that bytes go to, each with a count of its faults:
+//!
+//! ```text
+//! let mut sink = WriteEnd::new(io::writer(&rt));
+//! write_whole(&mut sink, b"200 OK")?; // or SinkFault { out }: the first `out` bytes were taken
+//! ```
 #![tactic(auto)]
 
 mod calm;

@@ -8,7 +8,8 @@ use crate::source::Failed;
 
 /// Where bytes go to.
 ///
-/// `Failed` comes only where the count of faults rose in that call, and a failed write adds no byte.
+/// `Failed` comes only where the count of faults rose in that call, and a failed write adds no byte. A
+/// write that did not fail leaves the count as it was.
 pub trait Sink {
     /// The bytes that it took, where the sink tells them.
     ghost held: { Self → Option (List ℕ) };
@@ -28,10 +29,12 @@ pub trait Sink {
 /// A write that failed after the sink had taken the first `out` bytes.
 #[derive(Clone, Copy, Debug, PartialEq, Eq)]
 pub struct SinkFault {
+    /// How many bytes of the front the sink holds.
     pub out: u64,
 }
 
-/// Writes all the bytes, in as many writes as the sink wants. It takes no memory.
+/// Writes all the bytes, in as many writes as the sink wants: at most one for each byte. It takes no
+/// memory. The first write that fails ends it, and the fault says how many bytes were taken before.
 pub fn write_whole<K: Sink>(sink: &mut K, bytes: &[u8]) -> Result<(), SinkFault>
     ensures ok { OnOk result (Appends (K.held sink.old) (K.held sink.new) bytes.now) }
     ensures err { IfErr result (λ f. Appends (K.held sink.old) (K.held sink.new) (take f.out bytes.now)) }

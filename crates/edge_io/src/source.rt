@@ -4,13 +4,14 @@ ghost use Rattle.std.specs.Io.{ReadsAtMost};
 ghost use Rattle.std.specs.Io.KnownBytes.{ReadConsumes};
 ghost use Rattle.edge_io.specs.Causes.{HasCause};
 
-/// A read or a write that did not come about.
+/// A read or a write that did not come about. What the system said of it is not kept.
 #[derive(Clone, Copy, Debug, PartialEq, Eq)]
 pub struct Failed;
 
 /// Where bytes come from.
 ///
-/// `Failed` comes only where the count of faults rose in that call, and a failed read takes no byte.
+/// `Failed` comes only where the count of faults rose in that call, and a failed read takes no byte. A
+/// read that did not fail leaves the count as it was.
 pub trait Source {
     /// The bytes that are still to come, where the source tells them.
     ghost left: { Self → Option (List ℕ) };
