@@ -1,6 +1,7 @@
 -- A map by ids beside the imports that count and hit.
-use Rattle.std.proofs.Common.{◌≡◌, ℕ, ◌+◌, ◌<◌, Bool, true, false, cond, List, [], ◌∷◌, ◌++◌, length, take, get_or, map, Ordering, Less, Equal, Greater, Bor, nat_cmp, is_eq, refl, sym, ap, ◌∙◌}
-use Rattle.std.proofs.lemmas.List.{map_more}
+use Rattle.std.proofs.Common.{◌≡◌, ℕ, ◌+◌, ◌<◌, ◌≤◌, Bool, true, false, cond, List, [], ◌∷◌, ◌++◌, length, take, get_or, map, Ordering, Less, Equal, Greater, Bor, nat_cmp, is_eq, refl, sum_by, sym, ap, ◌∙◌, arith}
+use Rattle.std.proofs.lemmas.List.{map_more, take-map}
+use Rattle.std.proofs.lemmas.List.Sums.{sum_by_push, sum_by-take-le}
 use Rattle.std.specs.Prelude.{filter}
 use Rattle.std.specs.Map.{remove_entry}
 use Rattle.std.specs.Set.{remove_key}
@@ -11,7 +12,7 @@ use Rattle.std.specs.BTreeMap.{insert_entry}
 use Rattle.osv_prim.specs.declared.subject.Subject.{Subject}
 use Rattle.osv_record.specs.Advisories.{Advisory}
 use Rattle.osv_record.specs.Imports.{placed, records_from, records}
-use Rattle.evaluate.specs.Hits.{Repo, hit, hits, ids_of, hit_ids, keyed}
+use Rattle.evaluate.specs.Hits.{Repo, is_hit, hits, ids_of, hit_ids, keyed}
 use Rattle.evaluate.proofs.Ascending.{by_id, one_id, records-ascending, removed, filter-placed_hit, filter-placed_miss}
 
 -- a kept value is seen as an advisory
@@ -66,16 +67,16 @@ records-push kept [] r = refl
 records-push kept (x ∷ imports) r = records-push (placed x kept) imports r
 
 pub inserted : {V : Type 0} (see : V → Advisory) (es : List (Bor (List ℕ) × V)) (k : Bor (List ℕ)) (v : V) (imports : List Advisory) (r : Advisory) (g : List Repo) (s : Subject)
-    → k.now ≡ r.id → see v ≡ r → hit g s r ≡ true → map (pair see) es ≡ map keyed (hits imports g s) → map (pair see) (insert_entry by_key es k v) ≡ map keyed (hits (imports ++ r ∷ []) g s)
+    → k.now ≡ r.id → see v ≡ r → is_hit g s r ≡ true → map (pair see) es ≡ map keyed (hits imports g s) → map (pair see) (insert_entry by_key es k v) ≡ map keyed (hits (imports ++ r ∷ []) g s)
 inserted see es k v imports r g s key value is so_far =
     pair-insert see es k v ∙ rw (so_far, key, value) (insert-keyed r (hits imports g s))
-    ∙ ap (map keyed) (sym (ap (filter (hit g s)) (records-push [] imports r) ∙ filter-placed_hit (hit g s) r (records imports) is (records-ascending [] imports tt)))
+    ∙ ap (map keyed) (sym (ap (filter (is_hit g s)) (records-push [] imports r) ∙ filter-placed_hit (is_hit g s) r (records imports) is (records-ascending [] imports tt)))
 
 pub taken_out : {V : Type 0} (see : V → Advisory) (test : Bor (List ℕ) → Bool) (es : List (Bor (List ℕ) × V)) (imports : List Advisory) (r : Advisory) (g : List Repo) (s : Subject)
-    → ((k : Bor (List ℕ)) → test k ≡ is_eq (by_id r.id k.now)) → hit g s r ≡ false → map (pair see) es ≡ map keyed (hits imports g s) → map (pair see) (remove_entry test es) ≡ map keyed (hits (imports ++ r ∷ []) g s)
+    → ((k : Bor (List ℕ)) → test k ≡ is_eq (by_id r.id k.now)) → is_hit g s r ≡ false → map (pair see) es ≡ map keyed (hits imports g s) → map (pair see) (remove_entry test es) ≡ map keyed (hits (imports ++ r ∷ []) g s)
 taken_out see test es imports r g s h is so_far =
     pair-remove see test r.id es h ∙ rw so_far (remove-keyed r.id (hits imports g s))
-    ∙ ap (map keyed) (sym (ap (filter (hit g s)) (records-push [] imports r) ∙ filter-placed_miss (hit g s) r (records imports) is (records-ascending [] imports tt)))
+    ∙ ap (map keyed) (sym (ap (filter (is_hit g s)) (records-push [] imports r) ∙ filter-placed_miss (is_hit g s) r (records imports) is (records-ascending [] imports tt)))
 
 pub all_values : {V : Type 0} (see : V → Advisory) (es : List (Bor (List ℕ) × V)) (rs : List Advisory) → map (pair see) es ≡ map keyed rs → map see (map (λ (e : Bor (List ℕ) × V). e.1) es) ≡ rs
 all_values see [] [] e = refl
@@ -88,6 +89,15 @@ all_values {V = V} see (x ∷ es) (r ∷ rs) e =
 
 pub one_more : {A : Type 0} (see : A → Advisory) (xs : List A) (i : ℕ) (a : A) → i < length xs → a ≡ get_or xs i a → map see (take (i + 1) xs) ≡ map see (take i xs) ++ see a ∷ []
 one_more see xs i a lt at = map_more see xs i a lt ∙ ap (λ y. map see (take i xs) ++ see y ∷ []) (sym at)
+
+-- ---- sums over the imports so far
+
+module _ {A : Type 0} (see : A → Advisory) (count : Advisory → ℕ) (xs : List A) (i : ℕ) (a : A) (lt : i < length xs) (at : a ≡ get_or xs i a) where
+  pub count_more : sum_by count (map see (take (i + 1) xs)) ≡ sum_by count (map see (take i xs)) + count (see a)
+  count_more = ap (sum_by count) (one_more see xs i a lt at) ∙ sum_by_push count (map see (take i xs)) (see a)
+
+  pub count_within : sum_by count (map see (take i xs)) + count (see a) ≤ sum_by count (map see xs)
+  count_within = omega (arith, count_more, ap (sum_by count) (take-map see (i + 1) xs), sum_by-take-le count (map see xs) (i + 1))
 
 -- ---- ids alone
 
@@ -105,13 +115,13 @@ remove-ids : (id : List ℕ) (xs : List Advisory) → remove_key (λ k. is_eq (b
 remove-ids id [] = refl
 remove-ids id (x ∷ xs) = rw (remove-ids id xs) (sym (map-cond (λ (y : Advisory). y.id) (is_eq (by_id id x.id)) _ _))
 
-pub id_inserted : (ids : List (List ℕ)) (imports : List Advisory) (r : Advisory) (g : List Repo) (s : Subject) → hit g s r ≡ true → ids ≡ hit_ids imports g s → insert_key by_id ids r.id ≡ hit_ids (imports ++ r ∷ []) g s
+pub id_inserted : (ids : List (List ℕ)) (imports : List Advisory) (r : Advisory) (g : List Repo) (s : Subject) → is_hit g s r ≡ true → ids ≡ hit_ids imports g s → insert_key by_id ids r.id ≡ hit_ids (imports ++ r ∷ []) g s
 id_inserted ids imports r g s is so_far =
     ap (λ (ks : List (List ℕ)). insert_key by_id ks r.id) so_far ∙ insert-ids r (hits imports g s)
-    ∙ ap ids_of (sym (ap (filter (hit g s)) (records-push [] imports r) ∙ filter-placed_hit (hit g s) r (records imports) is (records-ascending [] imports tt)))
+    ∙ ap ids_of (sym (ap (filter (is_hit g s)) (records-push [] imports r) ∙ filter-placed_hit (is_hit g s) r (records imports) is (records-ascending [] imports tt)))
 
-pub id_taken_out : (ids : List (List ℕ)) (imports : List Advisory) (r : Advisory) (g : List Repo) (s : Subject) → hit g s r ≡ false → ids ≡ hit_ids imports g s
+pub id_taken_out : (ids : List (List ℕ)) (imports : List Advisory) (r : Advisory) (g : List Repo) (s : Subject) → is_hit g s r ≡ false → ids ≡ hit_ids imports g s
     → remove_key (λ k. is_eq (by_id r.id k)) ids ≡ hit_ids (imports ++ r ∷ []) g s
 id_taken_out ids imports r g s is so_far =
     ap (remove_key (λ k. is_eq (by_id r.id k))) so_far ∙ remove-ids r.id (hits imports g s)
-    ∙ ap ids_of (sym (ap (filter (hit g s)) (records-push [] imports r) ∙ filter-placed_miss (hit g s) r (records imports) is (records-ascending [] imports tt)))
+    ∙ ap ids_of (sym (ap (filter (is_hit g s)) (records-push [] imports r) ∙ filter-placed_miss (is_hit g s) r (records imports) is (records-ascending [] imports tt)))

@@ -1,7 +1,8 @@
 -- Which imports count.
-use Rattle.std.proofs.Common.{◌≡◌, ◌⊎◌, inl, inr, ℕ, zero, suc, ◌<◌, Bool, true, false, ◌||◌, List, [], ◌∷◌, ◌++◌, length, get_or, Ordering, Less, Equal, Greater, is_eq, bytes_eq, refl, sym, ap, subst, ◌∙◌, arith}
+use Rattle.std.proofs.Common.{◌≡◌, ◌⊎◌, inl, inr, ℕ, zero, suc, ◌<◌, true, false, List, [], ◌∷◌, ◌++◌, length, get_or, Ordering, Less, Equal, Greater, is_eq, bytes_eq, refl, sym, ap, subst, ◌∙◌, arith}
 use Rattle.std.specs.Prelude.{Contains}
 use Rattle.std.specs.Ordering.{match_ordering}
+use Rattle.std.proofs.lemmas.Bool.{or_parts, or_from}
 use Rattle.std.proofs.lemmas.Map.Text.{is_eq-slice_cmp}
 use Rattle.osv_record.specs.Advisories.{Advisory}
 use Rattle.osv_record.specs.Imports.{placed, records_from, records, has_id, IsLastOfItsId}
@@ -78,14 +79,6 @@ mem-placed_old r s (x ∷ xs) d m = old_step r x s xs (by_id r.id x.id) refl d (
 
 -- ---- the imports one after another
 
-either_false : (a b : Bool) → (a || b) ≡ false → (a ≡ false) × (b ≡ false)
-either_false true b e = absurd cc
-either_false false b e = (refl, e)
-
-both_false : (a b : Bool) → a ≡ false → b ≡ false → (a || b) ≡ false
-both_false true b p q = absurd cc
-both_false false b p q = q
-
 pub last-from_mem : (kept later : List Advisory) (s : Advisory) → Ascending kept → Mem s (records_from kept later) → (IsLastOfItsId later s) ⊎ (Mem s kept × (has_id s.id later ≡ false))
 last-from_mem kept [] s a m = inr (m, refl)
 last-from_mem kept (r ∷ later) s a m =
@@ -94,16 +87,18 @@ last-from_mem kept (r ∷ later) s a m =
       | inr p ↦
           elim (mem-from_placed r s kept a p.0) [
             | inl is ↦ inl (record { before = []; after = later; stands = ap (λ (y : Advisory). y ∷ later) is; last = p.1 })
-            | inr q ↦ inr (q.0, both_false (bytes_eq s.id r.id) (has_id s.id later) q.1 p.1)
+            | inr q ↦ inr (q.0, or_from (bytes_eq s.id r.id) (has_id s.id later) q.1 p.1)
           ]
     ]
 
+-- one that is kept, and has no later import of its id, stays
 pub stays : (kept later : List Advisory) (s : Advisory) → Mem s kept → has_id s.id later ≡ false → Mem s (records_from kept later)
 stays kept [] s m none = m
 stays kept (r ∷ later) s m none =
-    let d = either_false (bytes_eq s.id r.id) (has_id s.id later) none in
+    let d = or_parts (bytes_eq s.id r.id) (has_id s.id later) none in
     stays (placed r kept) later s (mem-placed_old r s kept d.0 m) d.1
 
+-- one that comes without a later import of its id is there at the end
 pub comes : (kept before after : List Advisory) (s : Advisory) → has_id s.id after ≡ false → Mem s (records_from kept (before ++ s ∷ after))
 comes kept [] after s none = stays (placed s kept) after s (mem-placed s kept) none
 comes kept (r ∷ before) after s none = comes (placed r kept) before after s none

@@ -16,26 +16,24 @@ use Rattle.git_range.specs.Affected.{is_affected}
 use Rattle.version_order.specs.Bounds.{contains_text}
 use Rattle.version_order.specs.Orders.{order_of}
 
--- the range has an order, and contains the version in it
-abbrev pub is_in_extent : List ℕ → List ℕ → Extent → Bool
-is_in_extent ecosystem t r = option_map_or (λ o. contains_text o r.events t) (order_of r.kind ecosystem) false
+-- ---- versions
+
+-- the range has an order of versions, and contains the version in it
+abbrev pub range_contains : List ℕ → List ℕ → Extent → Bool
+range_contains ecosystem version extent = option_map_or (λ order. contains_text order extent.events version) (order_of extent.kind ecosystem) false
 
 -- no version is asked for, or the entry lists it, or one of its ranges contains it
-abbrev pub is_touched : List ℕ → Option (List ℕ) → Entry → Bool
-is_touched ecosystem None a = true
-is_touched ecosystem (Some t) a = list_any (λ v. bytes_eq t v) a.versions || list_any (is_in_extent ecosystem t) a.ranges
+abbrev pub affects_version : List ℕ → Option (List ℕ) → Entry → Bool
+affects_version ecosystem None entry = true
+affects_version ecosystem (Some version) entry = list_any (λ listed. bytes_eq version listed) entry.versions || list_any (range_contains ecosystem version) entry.ranges
 
--- the entry's package is there and matches the asked one, and the version touches it
-abbrev pub is_hit_in : PackageKey → Option (List ℕ) → Option PackageKey → Entry → Bool
-is_hit_in k t None a = false
-is_hit_in k t (Some p) a = matches p k && is_touched p.ecosystem t a
+-- the entry's package matches the asked one, and the entry affects the version
+abbrev pub version_entry_hit : PackageKey → Option (List ℕ) → Entry → Bool
+version_entry_hit asked version entry = option_map_or (λ key. matches key asked && affects_version key.ecosystem version entry) entry.«package» false
 
-abbrev pub entry_hit : PackageKey → Option (List ℕ) → Entry → Bool
-entry_hit k t a = is_hit_in k t a.«package» a
-
--- some entry's package matches, and the version, where one is asked for, touches that entry
+-- some entry's package matches the asked one, and that entry affects the version, where one is asked for
 abbrev pub version_hit : Advisory → PackageKey → Option (List ℕ) → Bool
-version_hit r k t = list_any (entry_hit k t) r.affected
+version_hit advisory asked version = list_any (version_entry_hit asked version) advisory.affected
 
 -- ---- commits
 
@@ -49,43 +47,43 @@ graph_of [] key = None
 graph_of (repo ∷ repos) key = if bytes_eq repo.0 key then Some repo.1 else graph_of repos key
 
 -- the graph has the commit, and the events affect it
-abbrev pub is_touched_in : List ℕ → List Event → List CommitRow → Bool
-is_touched_in c events graph = has graph c && is_affected graph events c
+abbrev pub affects_commit : List ℕ → List Event → List CommitRow → Bool
+affects_commit commit events graph = has graph commit && is_affected graph events commit
 
--- the repository of a GIT range has a graph with the commit, which the range affects
-abbrev pub range_hit : List Repo → List ℕ → Extent → Bool
-range_hit repos c r = option_map_or (λ key. option_map_or (is_touched_in c r.events) (graph_of repos key) false) r.repo false
+-- the repository of a GIT range has a graph with the commit, and the range affects it
+abbrev pub git_range_hit : List Repo → List ℕ → Extent → Bool
+git_range_hit repos commit extent = option_map_or (λ key. option_map_or (affects_commit commit extent.events) (graph_of repos key) false) extent.repo false
 
--- no package is asked for, or the entry is of the asked one
-abbrev pub is_asked : Option PackageKey → Option PackageKey → Bool
-is_asked None p = true
-is_asked (Some k) None = false
-is_asked (Some k) (Some p) = matches p k
+-- no package is asked for, or an entry of this package is of the asked one
+abbrev pub is_of_package : Option PackageKey → Option PackageKey → Bool
+is_of_package None key = true
+is_of_package (Some asked) None = false
+is_of_package (Some asked) (Some key) = matches key asked
 
-abbrev pub commit_entry_hit : List Repo → List ℕ → Option PackageKey → Entry → Bool
-commit_entry_hit repos c k a = is_asked k a.«package» && list_any (range_hit repos c) a.ranges
+abbrev pub git_entry_hit : List Repo → List ℕ → Option PackageKey → Entry → Bool
+git_entry_hit repos commit asked entry = is_of_package asked entry.«package» && list_any (git_range_hit repos commit) entry.ranges
 
 -- some entry, of the package where one is asked for, has a GIT range that affects the commit
-abbrev pub commit_hit : Advisory → List Repo → List ℕ → Option PackageKey → Bool
-commit_hit r repos c k = list_any (commit_entry_hit repos c k) r.affected
+abbrev pub git_hit : Advisory → List Repo → List ℕ → Option PackageKey → Bool
+git_hit advisory repos commit asked = list_any (git_entry_hit repos commit asked) advisory.affected
 
 -- ---- what is asked
 
-abbrev pub touches : List Repo → Subject → Advisory → Bool
-touches repos (Package k t) r = version_hit r k t
-touches repos (Commit c) r = commit_hit r repos c None
-touches repos (CommitIn c k) r = commit_hit r repos c (Some k)
+abbrev pub affects_subject : List Repo → Subject → Advisory → Bool
+affects_subject repos (Package asked version) advisory = version_hit advisory asked version
+affects_subject repos (Commit commit) advisory = git_hit advisory repos commit None
+affects_subject repos (CommitIn commit asked) advisory = git_hit advisory repos commit (Some asked)
 
--- the advisory is not withdrawn, and hits what is asked
-abbrev pub hit : List Repo → Subject → Advisory → Bool
-hit repos subject r = not r.withdrawn && touches repos subject r
+-- the advisory is not withdrawn, and affects what is asked
+abbrev pub is_hit : List Repo → Subject → Advisory → Bool
+is_hit repos subject advisory = not advisory.withdrawn && affects_subject repos subject advisory
 
 -- the last import of each id, where it hits, ascending by id
 abbrev pub hits : List Advisory → List Repo → Subject → List Advisory
-hits imports repos subject = filter (hit repos subject) (records imports)
+hits imports repos subject = filter (is_hit repos subject) (records imports)
 
 abbrev pub ids_of : List Advisory → List (List ℕ)
-ids_of rs = map (λ r. r.id) rs
+ids_of advisories = map (λ advisory. advisory.id) advisories
 
 -- the ids of the hits, ascending
 abbrev pub hit_ids : List Advisory → List Repo → Subject → List (List ℕ)
@@ -93,4 +91,4 @@ hit_ids imports repos subject = ids_of (hits imports repos subject)
 
 -- an advisory under its id
 abbrev pub keyed : Advisory → List ℕ × Advisory
-keyed r = (r.id, r)
+keyed advisory = (advisory.id, advisory)

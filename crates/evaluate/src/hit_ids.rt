@@ -1,9 +1,10 @@
-ghost use Rattle.std.specs.Prelude.{◌≡◌, ◌++◌, ◌∷◌, [], List, map, IfOk, OnOk, OnErr};
+ghost use Rattle.std.specs.Prelude.{◌≡◌, ◌+◌, ◌*◌, ◌≤◌, ◌++◌, ◌∷◌, [], List, map, IfOk, OnOk, OnErr};
 ghost use Rattle.std.specs.Arc.{arc_value};
 ghost use Rattle.osv_record.specs.Advisories.{Advisory};
 ghost use Rattle.evaluate.specs.Hits.{hit_ids};
+ghost use Rattle.evaluate.specs.Rows.{subject_rows};
 
-use crate::asked::is_hit_by;
+use crate::by_subject::is_hit;
 use commit_graph::Graph;
 use osv_prim::{Id, Ledger, Memory, RepoKey, Steps, Subject};
 use osv_record::Record;
@@ -37,8 +38,9 @@ impl HitIds {
         }
     }
 
-    /// One more import, which takes the place of an earlier one of its id. A refused one changes
-    /// nothing. It takes O(log n) comparisons of ids, n being the hits so far.
+    /// One more import, which counts in place of an earlier one of its id. Only want of memory is
+    /// refused, and changes nothing. It takes at most two graph steps for each row of the graph of each
+    /// GIT range in entries of the asked package, and none where no commit is asked for.
     pub fn import<L: Ledger>(
         &mut self,
         alloc: Global,
@@ -50,8 +52,10 @@ impl HitIds {
         ensures ok { OnOk result ((imports : List Advisory) → self.old ≡ hit_ids imports (map (λ g. (g.0, arc_value g.1)) repos.now) subject.now
             → self.new ≡ hit_ids (imports ++ advisory ∷ []) (map (λ g. (g.0, arc_value g.1)) repos.now) subject.now) }
         ensures err { OnErr result (self.new ≡ self.old) }
+        ensures steps { steps.new.graph ≤ steps.old.graph + 2 * subject_rows (map (λ g. (g.0, arc_value g.1)) repos.now) subject.now advisory }
+        ensures records { steps.new.record_count ≡ steps.old.record_count }
     {
-        if is_hit_by(alloc, &advisory, repos, subject, steps)? {
+        if is_hit(alloc, &advisory, repos, subject, steps)? {
             let Record { id, .. } = advisory;
             self.ids.insert(id)?;
         } else {
