@@ -5,7 +5,7 @@ use Rattle.std.specs.List.{position_or_len, position}
 use Rattle.std.proofs.lemmas.List.{take_at, drop_at, drop_more, take-append-drop, length-take-le, get_or-take}
 use Rattle.std.proofs.lemmas.List.Sums.{passes_at_first, fails_before_first, position_or_len_is}
 use Rattle.std.proofs.lemmas.Bool.Decides.{nat_tests}
-use Rattle.fast_export.specs.Lines.{is_lf, longest, IsClean, Line, Nothing, Cut, TooLong, line_of}
+use Rattle.fast_export.specs.Lines.{is_lf, max_line_bytes, IsClean, Line, Nothing, Cut, TooLong, line_of}
 
 clean-tail : (c : ℕ) (cs : List ℕ) → IsClean (c ∷ cs) → (is_lf c ≡ false) × IsClean cs
 clean-tail c cs h = cases (is_lf c) (position_or_len is_lf cs) (length cs) refl h
@@ -29,13 +29,13 @@ clean-append xs ys h k = first-behind xs ys h ∙ omega (arith, length-append xs
 lf-first : (ys : List ℕ) → position_or_len is_lf (10 ∷ ys) ≡ 0
 lf-first ys = refl
 
-lined : (p n : ℕ) (before after : List ℕ) → p ≤ longest → p < n → cond (ltb longest p) TooLong (cond (ltb p n) (Line before after) (cond (eqb n 0) Nothing Cut)) ≡ Line before after
+lined : (p n : ℕ) (before after : List ℕ) → p ≤ max_line_bytes → p < n → cond (ltb max_line_bytes p) TooLong (cond (ltb p n) (Line before after) (cond (eqb n 0) Nothing Cut)) ≡ Line before after
 lined p n before after a b =
-    let e : ltb longest p ≡ false = grind (arith, nat_tests) in
+    let e : ltb max_line_bytes p ≡ false = grind (arith, nat_tests) in
     let g : ltb p n ≡ true = grind (arith, nat_tests) in
     rw (e, g) refl
 
-pub line-whole : (xs more : List ℕ) → IsClean xs → length xs ≤ longest → line_of (xs ++ 10 ∷ more) ≡ Line xs more
+pub line-whole : (xs more : List ℕ) → IsClean xs → length xs ≤ max_line_bytes → line_of (xs ++ 10 ∷ more) ≡ Line xs more
 unfolding line_of
 line-whole xs more h le =
     let p : position_or_len is_lf (xs ++ 10 ∷ more) ≡ length xs = first-behind xs (10 ∷ more) h ∙ omega arith in
@@ -48,18 +48,18 @@ line-whole xs more h le =
     behind : (xs more : List ℕ) → drop (length xs + 1) (xs ++ 10 ∷ more) ≡ more
     behind xs more = ap (drop (length xs + 1)) (sym (append_assoc xs (10 ∷ []) more)) ∙ drop_at (xs ++ 10 ∷ []) more (length xs + 1) (length-append xs (10 ∷ []))
 
-pub line-too_long : (xs more : List ℕ) → IsClean xs → longest < length xs → line_of (xs ++ more) ≡ TooLong
+pub line-too_long : (xs more : List ℕ) → IsClean xs → max_line_bytes < length xs → line_of (xs ++ more) ≡ TooLong
 unfolding line_of
 line-too_long xs more h lt =
     let q = first-behind xs more h in
-    let e : ltb longest (position_or_len is_lf (xs ++ more)) ≡ true = rw q (grind (arith, nat_tests)) in
+    let e : ltb max_line_bytes (position_or_len is_lf (xs ++ more)) ≡ true = rw q (grind (arith, nat_tests)) in
     rw e refl
 
-pub line-cut : (xs : List ℕ) → IsClean xs → length xs ≤ longest → 0 < length xs → line_of xs ≡ Cut
+pub line-cut : (xs : List ℕ) → IsClean xs → length xs ≤ max_line_bytes → 0 < length xs → line_of xs ≡ Cut
 unfolding line_of
 line-cut xs h le lt =
     let p : position_or_len is_lf xs ≡ length xs = h in
-    let e : ltb longest (length xs) ≡ false = grind (arith, nat_tests) in
+    let e : ltb max_line_bytes (length xs) ≡ false = grind (arith, nat_tests) in
     let g : ltb (length xs) (length xs) ≡ false = grind (arith, nat_tests) in
     let k : eqb (length xs) 0 ≡ false = grind (arith, nat_tests) in
     rw (p, e, g, k) refl
@@ -81,23 +81,23 @@ first-within (x ∷ xs) = one (is_lf x) (position_or_len is_lf xs) (length xs) (
 is_ten : (c : ℕ) → is_lf c ≡ true → c ≡ 10
 is_ten c e = grind (arith, nat_tests)
 
-place : (b : Bool) (p n : ℕ) → Some n ≡ cond b (Some p) None → (b ≡ true) × (p ≡ n)
-place true p n e = (refl, cc)
-place false p n e = absurd cc
+index : (b : Bool) (p n : ℕ) → Some n ≡ cond b (Some p) None → (b ≡ true) × (p ≡ n)
+index true p n e = (refl, cc)
+index false p n e = absurd cc
 
-no_place : (b : Bool) (p : ℕ) → None ≡ cond b (Some p) None → b ≡ false
-no_place true p e = absurd cc
-no_place false p e = refl
+no_index : (b : Bool) (p : ℕ) → None ≡ cond b (Some p) None → b ≡ false
+no_index true p e = absurd cc
+no_index false p e = refl
 
 pub cut_none : (xs : List ℕ) → None ≡ position is_lf xs → IsClean xs
 cut_none xs e =
-    let b = no_place (ltb (position_or_len is_lf xs) (length xs)) (position_or_len is_lf xs) e in
+    let b = no_index (ltb (position_or_len is_lf xs) (length xs)) (position_or_len is_lf xs) e in
     let le : length xs ≤ position_or_len is_lf xs = grind (arith, nat_tests) in
     omega (arith, first-within xs)
 
 pub cut_some : (xs : List ℕ) (n : ℕ) → Some n ≡ position is_lf xs → (n < length xs) × IsClean (take n xs) × (xs ≡ take n xs ++ 10 ∷ drop (n + 1) xs)
 cut_some xs n e =
-    let b = place (ltb (position_or_len is_lf xs) (length xs)) (position_or_len is_lf xs) n e in
+    let b = index (ltb (position_or_len is_lf xs) (length xs)) (position_or_len is_lf xs) n e in
     let at : position_or_len is_lf xs ≡ n = b.1 in
     let test : ltb (position_or_len is_lf xs) (length xs) ≡ true = b.0 in
     let below : position_or_len is_lf xs < length xs = grind (arith, nat_tests) in

@@ -4,7 +4,7 @@ use Rattle.std.proofs.lemmas.Bool.{cases_lt}
 use Rattle.std.proofs.lemmas.List.{append-nil, nil_from_length}
 use Rattle.fast_export.specs.declared.grammar.Part.{Part}
 use Rattle.fast_export.specs.declared.reading.Reading.{Reading}
-use Rattle.fast_export.specs.Lines.{IsClean}
+use Rattle.fast_export.specs.Lines.{IsClean, max_line_bytes}
 use Rattle.fast_export.specs.Facts.{Facts, start, rows_of}
 use Rattle.fast_export.specs.Stream.{Step, Stop, ◌>>=◌, Outcome, Whole, Short, all, command, at_end, outcome, stream, IsNoFault}
 use Rattle.fast_export.specs.Commits.{facts_of}
@@ -16,9 +16,9 @@ use Rattle.fast_export.proofs.Resumes.{going-line, too_short}
 
 pub end_skip : (most : ℕ) (ps : List Part) (f : Facts) (line : List ℕ) (at skip : ℕ) → 0 < skip → going most ps f line at skip [] ≡ Stop Short
 unfolding going
-end_skip most ps f line at skip lt = ap (λ (s : Step). s >>= λ g place rest. left most ps g place (line ++ rest)) (too_short skip f at [] lt)
+end_skip most ps f line at skip lt = ap (λ (s : Step). s >>= λ g offset rest. left most ps g offset (line ++ rest)) (too_short skip f at [] lt)
 
-pub end_line : (most : ℕ) (ps : List Part) (f : Facts) (line : List ℕ) (at : ℕ) → IsClean line → length line ≤ 65536 → 0 < length line → going most ps f line at 0 [] ≡ Stop Short
+pub end_line : (most : ℕ) (ps : List Part) (f : Facts) (line : List ℕ) (at : ℕ) → IsClean line → length line ≤ max_line_bytes → 0 < length line → going most ps f line at 0 [] ≡ Stop Short
 end_line most ps f line at clean le lt =
     going-line most ps f line at [] ∙ ap (left most ps f at) (append-nil line) ∙ left-cut most ps f at line (line-cut line clean le lt)
 
@@ -46,7 +46,7 @@ whole_or_short false f = tt
 no_fault : (o : Outcome) (s : Step) → s ≡ Stop o → IsNoFault o → IsNoFault (outcome s)
 no_fault o s e h = rw e h
 
-going-no_fault : (most : ℕ) (ps : List Part) (f : Facts) (line : List ℕ) (at skip : ℕ) → IsClean line → length line ≤ 65536 → IsNoFault (outcome (going most ps f line at skip []))
+going-no_fault : (most : ℕ) (ps : List Part) (f : Facts) (line : List ℕ) (at skip : ℕ) → IsClean line → length line ≤ max_line_bytes → IsNoFault (outcome (going most ps f line at skip []))
 going-no_fault most ps f line at skip clean le =
     elim (cases_lt 0 skip) [
       | inl lt ↦ no_fault Short _ (end_skip most ps f line at skip lt) tt

@@ -1,10 +1,8 @@
 pub mod Cuts
 pub mod Ends
 pub mod Fed
-pub mod OfLines
 pub mod Left
 pub mod Numbers
-pub mod Places
+pub mod Positions
 pub mod Resumes
-pub mod Stays
 pub mod Turns

@@ -7,7 +7,7 @@ use Rattle.fast_export.specs.declared.fault.StreamFault.{StreamFault}
 use Rattle.fast_export.specs.declared.fault.StreamFault.TheVariants as faults
 use Rattle.fast_export.specs.declared.grammar.Part.{Part}
 use Rattle.fast_export.specs.declared.reading.Reading.{Reading}
-use Rattle.fast_export.specs.Lines.{IsClean}
+use Rattle.fast_export.specs.Lines.{IsClean, max_line_bytes}
 use Rattle.fast_export.specs.Facts.{Facts}
 use Rattle.fast_export.specs.Stream.{Step, Next, Stop, ◌>>=◌, Bad, Whole, Short, skipping}
 use Rattle.fast_export.specs.Following.{left, Offered, Goes, Ends, Refuses, offered, behind_line}
@@ -31,8 +31,8 @@ rest_of n text = take_all _ (drop n text) (omega (arith, length-drop n text))
 skip_sum : (n k : ℕ) → n ≤ k → n + (k - n) ≡ k
 skip_sum n k a = omega arith
 
-skip_place : (n k at : ℕ) → n ≤ k → at + k ≡ at + n + (k - n)
-skip_place n k at a = omega arith
+skip_offset : (n k at : ℕ) → n ≤ k → at + k ≡ at + n + (k - n)
+skip_offset n k at a = omega arith
 
 skipping-part : (n k : ℕ) (f : Facts) (at : ℕ) (text more : List ℕ) → n ≤ k → n ≤ length text → skipping k f at (text ++ more) ≡ skipping (k - n) f (at + n) (drop n text ++ more)
 skipping-part n k f at text more a b =
@@ -41,7 +41,7 @@ skipping-part n k f at text more a b =
     elim (cases_lt (length (text ++ more)) k) [
       | inl lt ↦ too_short k f at (text ++ more) lt ∙ sym (too_short (k - n) f (at + n) (drop n text ++ more) (omega arith))
       | inr le ↦
-          long_enough k f at (text ++ more) le ∙ ap (λ (j : ℕ). Next f j (drop k (text ++ more))) (skip_place n k at a) ∙ ap (λ (t : List ℕ). Next f (at + n + (k - n)) t) (sym behind)
+          long_enough k f at (text ++ more) le ∙ ap (λ (j : ℕ). Next f j (drop k (text ++ more))) (skip_offset n k at a) ∙ ap (λ (t : List ℕ). Next f (at + n + (k - n)) t) (sym behind)
           ∙ sym (long_enough (k - n) f (at + n) (drop n text ++ more) (omega arith))
     ]
 
@@ -51,25 +51,25 @@ pub going-part : (most : ℕ) (ps : List Part) (f : Facts) (line : List ℕ) (at
     → going most ps f line at skip (text ++ more) ≡ going most ps f line (at + n) (skip - n) (take (length text - n) (drop n text) ++ more)
 unfolding going
 going-part most ps f line at skip n text more a b =
-    ap (λ (s : Step). s >>= λ g place rest. left most ps g place (line ++ rest))
+    ap (λ (s : Step). s >>= λ g offset rest. left most ps g offset (line ++ rest))
     (skipping-part n skip f at text more a b ∙ ap (λ (t : List ℕ). skipping (skip - n) f (at + n) (t ++ more)) (sym (rest_of n text)))
 
 pub going-line : (most : ℕ) (ps : List Part) (f : Facts) (line : List ℕ) (at : ℕ) (text : List ℕ) → going most ps f line at 0 text ≡ left most ps f at (line ++ text)
 unfolding going
-going-line most ps f line at text = ap (λ (s : Step). s >>= λ g place rest. left most ps g place (line ++ rest)) (skipping-none f at text)
+going-line most ps f line at text = ap (λ (s : Step). s >>= λ g offset rest. left most ps g offset (line ++ rest)) (skipping-none f at text)
 
 pub going-kept : (most : ℕ) (ps : List Part) (f : Facts) (line front new : List ℕ) (at : ℕ) (more : List ℕ) → new ≡ line ++ front
     → going most ps f line at 0 (front ++ more) ≡ going most ps f new at 0 more
 going-kept most ps f line front new at more e =
     going-line most ps f line at (front ++ more) ∙ ap (left most ps f at) (sym (append_assoc line front more) ∙ ap (λ (l : List ℕ). l ++ more) (sym e)) ∙ sym (going-line most ps f new at more)
 
-pub going-too_long : (most : ℕ) (ps : List Part) (f : Facts) (line front : List ℕ) (at : ℕ) (more : List ℕ) → IsClean line → IsClean front → 65536 < length line + length front
+pub going-too_long : (most : ℕ) (ps : List Part) (f : Facts) (line front : List ℕ) (at : ℕ) (more : List ℕ) → IsClean line → IsClean front → max_line_bytes < length line + length front
     → going most ps f line at 0 (front ++ more) ≡ Stop (Bad (faults.LineTooLong at))
 going-too_long most ps f line front at more a b lt =
     going-line most ps f line at (front ++ more) ∙ ap (left most ps f at) (sym (append_assoc line front more))
     ∙ left-too_long most ps f at ((line ++ front) ++ more) (line-too_long (line ++ front) more (clean-append line front a b) (omega (arith, length-append line front)))
 
-going-took : (most : ℕ) (ps : List Part) (f : Facts) (line front after : List ℕ) (at : ℕ) (more : List ℕ) → IsClean line → IsClean front → length line + length front ≤ 65536
+going-took : (most : ℕ) (ps : List Part) (f : Facts) (line front after : List ℕ) (at : ℕ) (more : List ℕ) → IsClean line → IsClean front → length line + length front ≤ max_line_bytes
     → going most ps f line at 0 ((front ++ 10 ∷ after) ++ more) ≡ behind_line most (offered most ps f at (line ++ front)) (at + (length line + length front + 1)) (after ++ more)
 going-took most ps f line front after at more a b le =
     going-line most ps f line at ((front ++ 10 ∷ after) ++ more)
@@ -83,30 +83,30 @@ going-new most ps n f line at more e = sym (rw e refl)
 
 -- ---- a whole line, behind the front of it that was kept
 
-pub line_refused : (most : ℕ) (ps : List Part) (f : Facts) (line front after : List ℕ) (at : ℕ) (more : List ℕ) → IsClean line → IsClean front → 65536 < length line + length front
+pub line_refused : (most : ℕ) (ps : List Part) (f : Facts) (line front after : List ℕ) (at : ℕ) (more : List ℕ) → IsClean line → IsClean front → max_line_bytes < length line + length front
     → going most ps f line at 0 ((front ++ 10 ∷ after) ++ more) ≡ Stop (Bad (faults.LineTooLong at))
 line_refused most ps f line front after at more a b lt =
     ap (going most ps f line at 0) (append_assoc front (10 ∷ after) more) ∙ going-too_long most ps f line front at (10 ∷ (after ++ more)) a b lt
 
-pub line_faulty : (most : ℕ) (ps : List Part) (f : Facts) (line front after : List ℕ) (at : ℕ) (more : List ℕ) (e : StreamFault) → IsClean line → IsClean front → length line + length front ≤ 65536
+pub line_faulty : (most : ℕ) (ps : List Part) (f : Facts) (line front after : List ℕ) (at : ℕ) (more : List ℕ) (e : StreamFault) → IsClean line → IsClean front → length line + length front ≤ max_line_bytes
     → offered most ps f at (line ++ front) ≡ Refuses e → going most ps f line at 0 ((front ++ 10 ∷ after) ++ more) ≡ Stop (Bad e)
 line_faulty most ps f line front after at more e a b le h =
     going-took most ps f line front after at more a b le ∙ ap (λ (o : Offered). behind_line most o (at + (length line + length front + 1)) (after ++ more)) h
 
-pub line_ends : (most : ℕ) (ps : List Part) (f : Facts) (line front after : List ℕ) (at : ℕ) (more : List ℕ) (g : Facts) → IsClean line → IsClean front → length line + length front ≤ 65536
+pub line_ends : (most : ℕ) (ps : List Part) (f : Facts) (line front after : List ℕ) (at : ℕ) (more : List ℕ) (g : Facts) → IsClean line → IsClean front → length line + length front ≤ max_line_bytes
     → offered most ps f at (line ++ front) ≡ Ends g → going most ps f line at 0 ((front ++ 10 ∷ after) ++ more) ≡ Stop (Whole g.rows)
 line_ends most ps f line front after at more g a b le h =
     going-took most ps f line front after at more a b le ∙ ap (λ (o : Offered). behind_line most o (at + (length line + length front + 1)) (after ++ more)) h
 
 pub line_goes : (most : ℕ) (ps : List Part) (f : Facts) (line front after : List ℕ) (at : ℕ) (more : List ℕ) (new_most : ℕ) (new_ps : List Part) (g : Facts) (new_line : List ℕ) (new_at n : ℕ)
-    → IsClean line → IsClean front → length line + length front ≤ 65536
+    → IsClean line → IsClean front → length line + length front ≤ max_line_bytes
     → offered most ps f at (line ++ front) ≡ Goes new_ps n g → new_line ≡ [] → new_most ≡ most → new_at ≡ at + (length line + length front + 1)
     → going most ps f line at 0 ((front ++ 10 ∷ after) ++ more) ≡ going new_most new_ps g new_line new_at n (after ++ more)
-line_goes most ps f line front after at more new_most new_ps g new_line new_at n a b le h empty same place =
+line_goes most ps f line front after at more new_most new_ps g new_line new_at n a b le h empty same offset =
     going-took most ps f line front after at more a b le
     ∙ ap (λ (o : Offered). behind_line most o (at + (length line + length front + 1)) (after ++ more)) h
     ∙ going-new most new_ps n g new_line (at + (length line + length front + 1)) (after ++ more) empty
-    ∙ ap (λ (p : ℕ). going most new_ps g new_line p n (after ++ more)) (sym place)
+    ∙ ap (λ (p : ℕ). going most new_ps g new_line p n (after ++ more)) (sym offset)
     ∙ ap (λ (m : ℕ). going m new_ps g new_line new_at n (after ++ more)) (sym same)
 
 pub clean-kept : (line front new : List ℕ) → new ≡ line ++ front → IsClean line → IsClean front → IsClean new

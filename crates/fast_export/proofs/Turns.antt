@@ -6,7 +6,7 @@ use Rattle.std.proofs.lemmas.Bool.Decides.{nat_tests}
 use Rattle.fast_export.specs.declared.fault.StreamFault.{StreamFault}
 use Rattle.fast_export.specs.declared.grammar.Part.{Part}
 use Rattle.fast_export.specs.declared.grammar.Command.{Command}
-use Rattle.fast_export.specs.Lines.{is_lf, longest, Lined, Line, Nothing, Cut, TooLong, line_of}
+use Rattle.fast_export.specs.Lines.{is_lf, max_line_bytes, Lined, Line, Nothing, Cut, TooLong, line_of}
 use Rattle.fast_export.specs.Grammar.{repeats, parts_of, is_done}
 use Rattle.fast_export.specs.Facts.{Facts, settled, rows_of, Answer, Took, Counts, Passed, Refused, takes, opens, with_line}
 use Rattle.fast_export.specs.Stream.{Step, Next, Stop, ◌>>=◌, Whole, Short, Turn, Again, Over, turned, repeated, all, skipping, answered, on_line, turn, part, parts, behind_command, opened, on_first_line, command}
@@ -93,7 +93,7 @@ behind_lf p n text e len = let lt : p < n = grind (arith, nat_tests) in omega (a
 line-shortens : (text : List ℕ) → Shortens (length text) (line_of text)
 unfolding line_of
 line-shortens text =
-    shortens (length text) (ltb longest (position_or_len is_lf text)) (ltb (position_or_len is_lf text) (length text)) (eqb (length text) 0)
+    shortens (length text) (ltb max_line_bytes (position_or_len is_lf text)) (ltb (position_or_len is_lf text) (length text)) (eqb (length text) 0)
     (before_first is_lf text) (after_first is_lf text) (λ e. behind_lf (position_or_len is_lf text) (length text) text e refl)
 
 -- ---- parts and commands

@@ -1,4 +1,4 @@
--- The faults of a stream: their numbers, names and places.
+-- The faults of a stream: their numbers and names, and their offsets in bytes.
 use Rattle.std.specs.Prelude.{ℕ, List, codes}
 use Rattle.fast_export.specs.declared.fault.StreamFault.{StreamFault}
 use Rattle.fast_export.specs.declared.fault.StreamFault.TheVariants as faults
@@ -29,15 +29,15 @@ name_of (faults.TooManyCommits at) = codes "TooManyCommits"
 name_of (faults.LineTooLong at) = codes "LineTooLong"
 name_of faults.Memory = codes "Memory"
 
-abbrev pub place_of : StreamFault → ℕ
-place_of (faults.BadLine at) = at
-place_of (faults.BadData at) = at
-place_of (faults.NoOriginalOid at) = at
-place_of (faults.BadOid at) = at
-place_of (faults.UnknownMark at) = at
-place_of (faults.MarkTwice at) = at
-place_of (faults.RefParent at) = at
-place_of (faults.Ended at) = at
-place_of (faults.TooManyCommits at) = at
-place_of (faults.LineTooLong at) = at
-place_of faults.Memory = 0
+abbrev pub offset_of : StreamFault → ℕ
+offset_of (faults.BadLine at) = at
+offset_of (faults.BadData at) = at
+offset_of (faults.NoOriginalOid at) = at
+offset_of (faults.BadOid at) = at
+offset_of (faults.UnknownMark at) = at
+offset_of (faults.MarkTwice at) = at
+offset_of (faults.RefParent at) = at
+offset_of (faults.Ended at) = at
+offset_of (faults.TooManyCommits at) = at
+offset_of (faults.LineTooLong at) = at
+offset_of faults.Memory = 0

@@ -7,6 +7,10 @@ use Rattle.fast_export.specs.declared.grammar.Part.TheVariants as parts
 use Rattle.fast_export.specs.declared.grammar.Command.{Command}
 use Rattle.fast_export.specs.declared.grammar.Command.TheVariants as commands
 
+-- what the first line of a command says
+abbrev pub Opening : Type 0
+Opening = Command
+
 abbrev pub word_text : Word → List ℕ
 word_text words.OriginalOid = codes "original-oid "
 word_text words.Author = codes "author "

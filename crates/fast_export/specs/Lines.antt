@@ -10,9 +10,9 @@ is_lf c = c == 10
 abbrev pub is_space : ℕ → Bool
 is_space c = c == 32
 
--- a line has at most so many bytes before its LF
-abbrev pub longest : ℕ
-longest = 65536
+-- the most bytes of a line before its LF
+abbrev pub max_line_bytes : ℕ
+max_line_bytes = 65536
 
 -- no LF stands in the bytes
 abbrev pub IsClean : List ℕ → Type 0
@@ -28,7 +28,7 @@ pub data Lined : Type 0 where
 
 unfoldable pub line_of : List ℕ → Lined
 line_of text =
-    if nat_lt longest (position_or_len is_lf text) then TooLong
+    if nat_lt max_line_bytes (position_or_len is_lf text) then TooLong
     else if nat_lt (position_or_len is_lf text) (length text) then Line (before_first is_lf text) (after_first is_lf text)
     else if length text == 0 then Nothing
     else Cut

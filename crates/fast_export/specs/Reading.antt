@@ -16,7 +16,7 @@ come r = r.at + length r.line.items
 -- What is left of a stream whose next bytes are the text: so many bytes that are passed over, and then, behind
 -- the front of a line, these parts.
 unfoldable pub going : ℕ → List Part → Facts → List ℕ → ℕ → ℕ → List ℕ → Step
-going most ps f line at skip text = skipping skip f at text >>= λ g place rest. left most ps g place (line ++ rest)
+going most ps f line at skip text = skipping skip f at text >>= λ g offset rest. left most ps g offset (line ++ rest)
 
 -- what the stream is if this text comes next
 abbrev pub resume : Reading → List ℕ → Step

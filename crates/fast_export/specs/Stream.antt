@@ -1,5 +1,5 @@
 -- What a stream says (git's documentation, git-fast-import, "Input format", and git-fast-export, "--show-original-ids"): a list of commands, each of its parts.
-use Rattle.std.specs.Prelude.{◌≡◌, ◌↔◌, ◌++◌, ℕ, zero, suc, ◌+◌, Bool, true, if◌then◌else◌, ◌&&◌, not, nat_lt, Result, Ok, Err, List, [], ◌∷◌, length, drop}
+use Rattle.std.specs.Prelude.{ℕ, zero, suc, ◌+◌, Bool, true, if◌then◌else◌, ◌&&◌, not, nat_lt, Result, Ok, Err, List, [], ◌∷◌, length, drop}
 use Rattle.osv_prim.specs.declared.oid.CommitRow.{CommitRow}
 use Rattle.fast_export.specs.declared.fault.StreamFault.{StreamFault}
 use Rattle.fast_export.specs.declared.fault.StreamFault.TheVariants as faults
@@ -15,7 +15,7 @@ pub data Outcome : Type 0 where
   Whole : List CommitRow → Outcome
   Short : Outcome
 
--- behind a part: what is known, the place and the text that is left. Or the text has said what it is.
+-- behind a part: what is known, and the text that is left with its offset. Or the text has said what it is.
 pub data Step : Type 0 where
   Next : Facts → ℕ → List ℕ → Step
   Stop : Outcome → Step
@@ -115,11 +115,3 @@ abbrev pub answer : ℕ → Outcome → Result (List CommitRow) StreamFault
 answer n (Bad e) = Err e
 answer n (Whole rows) = Ok rows
 answer n Short = Err (faults.Ended n)
-
--- a fault stays, however the text goes on
-abbrev pub FaultsStay : Type 0
-FaultsStay = (text more : List ℕ) (most : ℕ) (e : StreamFault) → stream text most ≡ Bad e → stream (text ++ more) most ≡ Bad e
-
--- that the text ends is a fault exactly where it has to go on
-abbrev pub EndsExactly : Type 0
-EndsExactly = (text : List ℕ) (most n : ℕ) → (answer n (stream text most) ≡ Err (faults.Ended n)) ↔ (stream text most ≡ Short)

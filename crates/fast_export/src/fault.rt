@@ -1,5 +1,5 @@
 ghost use Rattle.std.specs.Prelude.{◌≡◌};
-ghost use Rattle.fast_export.specs.Faults.{code_of, name_of, place_of};
+ghost use Rattle.fast_export.specs.Faults.{code_of, name_of, offset_of};
 
 use osv_prim::Memory;
 use std::alloc::{AllocError, AllocFailed};
@@ -26,16 +26,16 @@ pub enum StreamFault {
     Ended { at: u64 },
     /// A commit beyond the limit.
     TooManyCommits { at: u64 },
-    /// A line of more than 65,536 bytes.
+    /// A line of more than `MAX_LINE_BYTES` bytes, its LF not counted.
     LineTooLong { at: u64 },
     /// Want of memory.
     Memory,
 }
 
 impl StreamFault {
-    /// The place of the fault, as an offset in bytes from 0. It is 0 for want of memory.
+    /// The offset of the fault in bytes, from 0. It is 0 for want of memory.
     pub fn at(&self) -> u64
-        ensures { result ≡ place_of self.now }
+        ensures { result ≡ offset_of self.now }
     {
         match *self {
             StreamFault::BadLine { at }
@@ -52,7 +52,7 @@ impl StreamFault {
         }
     }
 
-    /// The number under which the fault is printed.
+    /// The number under which the fault is printed, from 1 to 11 in the order of the variants.
     pub fn code(&self) -> u8
         ensures { result ≡ code_of self.now }
     {
@@ -71,7 +71,7 @@ impl StreamFault {
         }
     }
 
-    /// The name under which the fault is printed.
+    /// The name under which the fault is printed, that of its variant.
     pub fn name(&self) -> &str
         ensures { result.now ≡ name_of self.now }
     {

@@ -1,4 +1,10 @@
 //! The commits of a `git fast-export --show-original-ids` stream, fed in pieces of any size.
+//!
+//! ```
+//! let mut reader = Reader::new(alloc, 1_000_000)?;
+//! reader.feed(piece)?;
+//! let rows = reader.finish()?;
+//! ```
 #![tactic(auto)]
 
 mod commands;
@@ -6,12 +12,11 @@ mod commits;
 mod cut;
 mod fault;
 mod grammar;
-mod law;
 mod line;
 mod opening;
 mod reader;
 mod reading;
 
 pub use fault::StreamFault;
-pub use law::{a_fault_stays, the_end_is_a_fault_of_short_texts};
 pub use reader::Reader;
+pub use reading::MAX_LINE_BYTES;

@@ -4,8 +4,8 @@ ghost use Rattle.fast_export.specs.Lines.{behind, begins, is_digit, is_digits, f
 
 use memchr::memchr;
 
-/// The first place of a byte.
-pub(crate) fn place_of(byte: u8, text: &[u8]) -> Option<usize>
+/// The index of the first byte of this value.
+pub(crate) fn index_of(byte: u8, text: &[u8]) -> Option<usize>
     ensures { result ≡ position (λ c. c == byte) text.now }
 {
     memchr(byte, text)
@@ -131,7 +131,7 @@ pub(crate) fn is_file(line: &[u8]) -> bool
 fn field(text: &[u8]) -> &[u8]
     ensures { result.now ≡ field text.now }
 {
-    match place_of(b' ', text) {
+    match index_of(b' ', text) {
         Some(end) => &text[..end],
         None => text,
     }
@@ -141,7 +141,7 @@ fn field(text: &[u8]) -> &[u8]
 fn other_fields(text: &[u8]) -> &[u8]
     ensures { result.now ≡ other_fields text.now }
 {
-    match place_of(b' ', text) {
+    match index_of(b' ', text) {
         Some(end) => &text[end + 1..],
         None => &[],
     }

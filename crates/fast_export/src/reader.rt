@@ -3,7 +3,8 @@ use crate::reading::Reading;
 use osv_prim::{CommitRow, List, Memory};
 use std::alloc::Global;
 
-/// A reader of one stream. It keeps the rows and the marks of the commits and at most one line; the bytes
+/// A reader of one stream (git's documentation, git-fast-import, "Input format", and git-fast-export,
+/// "--show-original-ids"). It keeps the rows and the marks of the commits and at most one line; the bytes
 /// behind a line `data` are passed over by their count.
 #[derive(Drop)]
 pub struct Reader {
@@ -18,7 +19,7 @@ impl Reader {
     ghost use Rattle.fast_export.specs.Stream.{stream, Bad, IsNoFault, answer};
     ghost use Rattle.fast_export.specs.Reads.{Reads, fault_of, fed_len};
 
-    /// A reader of a stream in which at most `most` commits may come.
+    /// A reader of a stream in which at most `most` commits may come. Only want of memory is refused.
     pub fn new(alloc: Global, most: u32) -> Result<Reader, Memory>
         ensures reads { IfOk result (λ r. Reads most [] r) }
         ensures count { IfOk result (λ r. fed_len r ≡ 0) }
@@ -31,7 +32,7 @@ impl Reader {
     }
 
     /// Reads the next piece of the stream, which may be of any size. The fault is the first one of all bytes
-    /// so far, found when its line's LF has come or the line's 65,537th byte; `Memory` comes where a row, a
+    /// so far, found when its line's LF has come or a byte beyond `MAX_LINE_BYTES`; `Memory` comes where a row, a
     /// mark or a line finds none. After a fault each later call answers that fault. Fewer than 2^64 bytes may
     /// be fed in all.
     pub fn feed(&mut self, piece: &[u8]) -> Result<(), StreamFault>

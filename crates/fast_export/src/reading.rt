@@ -1,5 +1,5 @@
 ghost use Rattle.std.specs.Prelude.{◌≡◌, ◌<◌, ◌≤◌, ◌+◌, ◌^◌, length};
-ghost use Rattle.fast_export.specs.Lines.{IsClean};
+ghost use Rattle.fast_export.specs.Lines.{IsClean, max_line_bytes};
 
 use crate::commands::{Commands, Then};
 use crate::cut::next_line;
@@ -7,8 +7,8 @@ use crate::fault::StreamFault;
 use osv_prim::{CommitRow, List};
 use std::alloc::Global;
 
-// A line has at most so many bytes before its LF.
-const LONGEST: usize = 65_536;
+/// The most bytes of a line of a stream, its LF not counted.
+pub const MAX_LINE_BYTES: usize = 65_536;
 
 /// A stream that has come so far.
 #[derive(Drop)]
@@ -16,20 +16,20 @@ pub(crate) struct Reading {
     commands: Commands,
     // The front of a line whose LF has not come.
     line: Vec<u8>,
-    // Where that line begins.
+    // The offset in bytes at which that line begins.
     at: u64,
     // How many bytes still follow a line `data`.
     skip: u64,
     // The line `done` was read.
     ended: bool,
     ghost clean: { IsClean line.items },
-    ghost short: { length line.items ≤ 65536 },
-    ghost place: { at + length line.items < 2 ^ 64 },
+    ghost short: { length line.items ≤ max_line_bytes },
+    ghost bounded: { at + length line.items < 2 ^ 64 },
 }
 
 impl Reading {
     ghost use Rattle.std.specs.Prelude.{◌≡◌, ◌<◌, ◌≤◌, ◌+◌, ◌-◌, ◌^◌, ◌++◌, ◌∷◌, ◌≢◌, [], ℕ, List, length, true, false, OnOk, IfOk, IfErr};
-    ghost use Rattle.fast_export.specs.Lines.{IsClean};
+    ghost use Rattle.fast_export.specs.Lines.{IsClean, max_line_bytes};
     ghost use Rattle.fast_export.specs.declared.fault.StreamFault.TheVariants.{Memory as no_memory, Ended as ended_at};
     ghost use Rattle.fast_export.specs.Facts.{rows_of};
     ghost use Rattle.fast_export.specs.Stream.{stream, outcome, Stop, Whole, Short};
@@ -101,7 +101,7 @@ impl Reading {
     // Offers the line that ends here, and keeps none of it.
     fn offer(&mut self, front: &[u8]) -> Result<Then, StreamFault>
         requires clean { IsClean front.now }
-        requires short { length self.old.line.items + length front.now ≤ 65536 }
+        requires short { length self.old.line.items + length front.now ≤ max_line_bytes }
         requires room { come self.old + length front.now < 2 ^ 64 }
         ensures line { Offers result self.new.commands.parts.now (facts_of self.new.commands.commits)
             (offered self.old.commands.most self.old.commands.parts.now (facts_of self.old.commands.commits) self.old.at (self.old.line.items ++ front.now)) }
@@ -128,7 +128,7 @@ impl Reading {
         ensures ok { OnOk result ((after : List ℕ) → Leads self.old (front.now ++ 10 ∷ after) self.new after) }
         ensures err { IfErr result (λ e. (after : List ℕ) → Faulty self.old (front.now ++ 10 ∷ after) e) }
     {
-        if self.line.len() + front.len() > LONGEST {
+        if self.line.len() + front.len() > MAX_LINE_BYTES {
             return Err(StreamFault::LineTooLong { at: self.at });
         }
         let end = self.at + (self.line.len() + front.len()) as u64 + 1;
@@ -149,7 +149,7 @@ impl Reading {
         ensures ok { OnOk result (Leads self.old front.now self.new []) }
         ensures err { IfErr result (λ e. Faulty self.old front.now e) }
     {
-        if self.line.len() + front.len() > LONGEST {
+        if self.line.len() + front.len() > MAX_LINE_BYTES {
             return Err(StreamFault::LineTooLong { at: self.at });
         }
         self.line.extend_from_slice(front)?;

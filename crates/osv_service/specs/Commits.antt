@@ -52,5 +52,5 @@ refused_at what code name where_ place =
     codes "refused " ++ (what ++ (codes " " ++ (decimal code ++ (codes " " ++ (name ++ (where_ ++ (decimal place ++ codes "\n")))))))
 
 abbrev pub refused_commits : CommitFault → List ℕ
-refused_commits (Stream e) = refused_at (codes "stream") (stream_fault.code_of e) (stream_fault.name_of e) (codes " at ") (stream_fault.place_of e)
+refused_commits (Stream e) = refused_at (codes "stream") (stream_fault.code_of e) (stream_fault.name_of e) (codes " at ") (stream_fault.offset_of e)
 refused_commits (Graph e) = refused_at (codes "graph") (graph.code_of e) (graph.name_of e) (codes " at row ") (graph.row_of e)

@@ -22,10 +22,10 @@ fn divided(alloc: Global, text: &[u8], most: u32, whole: String) -> Result<Strin
     if text.len() > 2_000 {
         return Ok(whole);
     }
-    for place in 0..text.len() {
-        let two = told(alloc, &read_at(alloc, text, place, most))?;
+    for offset in 0..text.len() {
+        let two = told(alloc, &read_at(alloc, text, offset, most))?;
         if two.as_str() != whole.as_str() {
-            return format!(in alloc; "divided at {place} {two} and not {whole}");
+            return format!(in alloc; "divided at {offset} {two} and not {whole}");
         }
     }
     Ok(whole)

@@ -2,7 +2,8 @@ ghost use Rattle.std.specs.Prelude.{◌≡◌, ◌≢◌, ◌<◌, IfOk, IfErr, 
 ghost use Rattle.fast_export.specs.declared.fault.StreamFault.TheVariants.{Memory as no_memory};
 ghost use Rattle.fast_export.specs.Stream.{stream, answer};
 
-use fast_export::{Reader, StreamFault, a_fault_stays};
+use fast_export::{Reader, StreamFault};
+use fast_export_laws::a_fault_stays;
 use osv_prim::{CommitRow, List};
 use std::alloc::Global;
 
@@ -33,10 +34,10 @@ pub fn read_in(
 pub fn read_at(
     alloc: Global,
     text: &[u8],
-    place: usize,
+    offset: usize,
     most: u32,
 ) -> Result<List<CommitRow>, StreamFault> {
-    let (front, back) = text.split_at(place.min(text.len()));
+    let (front, back) = text.split_at(offset.min(text.len()));
     let mut reader = Reader::new(alloc, most)?;
     reader.feed(front)?;
     reader.feed(back)?;

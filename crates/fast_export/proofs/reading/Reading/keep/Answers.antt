@@ -2,8 +2,8 @@ use Rattle.std.proofs.Common.{◌+◌, length, ◌≤◌, arith, refl, length-ap
 use Rattle.fast_export.proofs.Resumes.{going-kept, going-too_long, clean-extended, length-extended}
 use Rattle.fast_export.proofs.reading.Reading.keep.Goals as goal
 
-pub returns-then-len-front-gt-LONGEST-clause-err : goal.returns-then-len-front-gt-LONGEST-clause-err
-returns-then-len-front-gt-LONGEST-clause-err c = λ ne more.
+pub returns-then-len-front-gt-MAX_LINE_BYTES-clause-err : goal.returns-then-len-front-gt-MAX_LINE_BYTES-clause-err
+returns-then-len-front-gt-MAX_LINE_BYTES-clause-err c = λ ne more.
     rw (c.requires.going.0, c.requires.going.1) (going-too_long _ _ _ c.args.self.now.line.items c.args.front.now c.args.self.now.at more c.args.self.now.clean c.requires.clean (omega arith))
 
 pub invariant_of-self : goal.invariant_of-self
@@ -15,7 +15,7 @@ invariant_of-self c =
     record {
       clean = clean-extended _ line c.args.front.now new h c.args.self.now.clean c.requires.clean;
       short = omega (arith, len);
-      place = omega (arith, len);
+      bounded = omega (arith, len);
     }
 
 pub returns-clause-ok : goal.returns-clause-ok

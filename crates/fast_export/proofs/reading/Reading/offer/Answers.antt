@@ -8,5 +8,5 @@ invariant_of-self-in-Break-branch-2 c =
     record {
       clean = clean-kept c.args.self.now.line.items c.args.front.now _ e c.args.self.now.clean c.requires.clean;
       short = omega (arith, ap length e, length-append c.args.self.now.line.items c.args.front.now);
-      place = omega (arith, ap length e, length-append c.args.self.now.line.items c.args.front.now);
+      bounded = omega (arith, ap length e, length-append c.args.self.now.line.items c.args.front.now);
     }

@@ -3,8 +3,8 @@ use Rattle.std.proofs.lemmas.Result.{err_from_is_err_and}
 use Rattle.fast_export.proofs.Resumes.{line_refused, line_faulty, line_ends, line_goes}
 use Rattle.fast_export.proofs.reading.Reading.take_line.Goals as goal
 
-pub returns-then-len-front-gt-LONGEST-clause-err : goal.returns-then-len-front-gt-LONGEST-clause-err
-returns-then-len-front-gt-LONGEST-clause-err c = λ after ne more.
+pub returns-then-len-front-gt-MAX_LINE_BYTES-clause-err : goal.returns-then-len-front-gt-MAX_LINE_BYTES-clause-err
+returns-then-len-front-gt-MAX_LINE_BYTES-clause-err c = λ after ne more.
     rw (c.requires.going.0, c.requires.going.1)
     (line_refused _ _ _ c.args.self.now.line.items c.args.front.now after c.args.self.now.at more c.args.self.now.clean c.requires.clean (omega arith))
 

@@ -8,13 +8,13 @@ use Rattle.std.proofs.lemmas.List.{take-append-le, drop-append-le}
 use Rattle.osv_prim.specs.declared.oid.CommitRow.{CommitRow}
 use Rattle.fast_export.specs.declared.fault.StreamFault.{StreamFault}
 use Rattle.fast_export.specs.declared.grammar.Part.{Part}
-use Rattle.fast_export.specs.declared.grammar.Command.{Command}
-use Rattle.fast_export.specs.Lines.{is_lf, longest, Lined, Line, Nothing, Cut, TooLong, line_of}
-use Rattle.fast_export.specs.Grammar.{may_end, repeats, parts_of, is_done}
+use Rattle.fast_export.specs.Lines.{is_lf, max_line_bytes, Lined, Line, Nothing, Cut, TooLong, line_of}
+use Rattle.fast_export.specs.Grammar.{Opening, may_end, repeats, parts_of, is_done}
 use Rattle.fast_export.specs.Facts.{Facts, start, settled, rows_of, Answer, Took, Counts, Passed, Refused, takes, opens, with_line}
-use Rattle.fast_export.specs.Stream.{Step, Next, Stop, ◌>>=◌, Bad, Whole, Short, Turn, Again, Over, turned, repeated, all, at_end, skipping, answered, on_line, turn, part, parts, behind_command, opened, on_first_line, command, outcome, stream, FaultsStay}
+use Rattle.fast_export.specs.Stream.{Step, Next, Stop, ◌>>=◌, Bad, Whole, Short, Turn, Again, Over, turned, repeated, all, at_end, skipping, answered, on_line, turn, part, parts, behind_command, opened, on_first_line, command, outcome, stream}
 use Rattle.fast_export.proofs.Turns.{Falls, AlwaysFalls, turn-falls, command-falls}
 use Rattle.fast_export.proofs.Resumes.{long_enough, too_short}
+use Rattle.fast_export_laws.specs.Laws.{FaultsStay}
 
 -- ---- what a longer text says: the same, with more text behind it
 
@@ -67,7 +67,7 @@ module _ (more : List ℕ) where
   grows-repeated t falls h (suc n) zero f at text lt = absurd (omega arith)
   grows-repeated t falls h (suc n) (suc m) f at text lt =
       grows-turned (t f at text) (t f at (text ++ more)) (length text) (repeated t n) (repeated t m) (falls f at text) (h f at text)
-      (λ g place rest shorter. grows-repeated t falls h n m g place rest (omega arith))
+      (λ g offset rest shorter. grows-repeated t falls h n m g offset rest (omega arith))
 
   grows-all : (t : Facts → ℕ → List ℕ → Turn) → AlwaysFalls t → AlwaysGrows t → (f : Facts) (at : ℕ) (text : List ℕ) → Grows (all t f at text) (all t f at (text ++ more))
   unfolding all
@@ -76,18 +76,18 @@ module _ (more : List ℕ) where
   -- ---- lines
 
   abbrev cut : ℕ → ℕ → List ℕ → List ℕ → Lined
-  cut p n before after = cond (ltb longest p) TooLong (cond (ltb p n) (Line before after) (cond (eqb n 0) Nothing Cut))
+  cut p n before after = cond (ltb max_line_bytes p) TooLong (cond (ltb p n) (Line before after) (cond (eqb n 0) Nothing Cut))
 
   grows-cut : (p n q m : ℕ) (before after new_before new_after : List ℕ) → p ≤ q → (p < n → (q ≡ p) × (p < m) × (new_before ≡ before) × (new_after ≡ after ++ more))
       → GrowsLine (cut p n before after) (cut q m new_before new_after)
   grows-cut p n q m before after new_before new_after le same =
-      elim (cases_lt longest p) [
+      elim (cases_lt max_line_bytes p) [
         | inl long ↦
-            let a : ltb longest p ≡ true = grind (arith, nat_tests) in
-            let b : ltb longest q ≡ true = grind (arith, nat_tests) in
+            let a : ltb max_line_bytes p ≡ true = grind (arith, nat_tests) in
+            let b : ltb max_line_bytes q ≡ true = grind (arith, nat_tests) in
             rw (a, b) refl
         | inr short ↦
-            let a : ltb longest p ≡ false = grind (arith, nat_tests) in
+            let a : ltb max_line_bytes p ≡ false = grind (arith, nat_tests) in
             elim (cases_lt p n) [
               | inl lt ↦
                   let s = same lt in
@@ -144,11 +144,11 @@ grows-skipping more n f at text =
           rw (long_enough n f at text le) (long_enough n f at (text ++ more) (omega (arith, length-append text more)) ∙ ap (λ (t : List ℕ). Next f (at + n) t) (drop-append-le n text more le))
     ]
 
-grows-answered : (more : List ℕ) (a : Answer) (f : Facts) (at place : ℕ) (rest text : List ℕ) → GrowsTurn more (answered a f place rest (Next f at text)) (answered a f place (rest ++ more) (Next f at (text ++ more)))
-grows-answered more (Took g) f at place rest text = refl
-grows-answered more (Counts n) f at place rest text = over more (skipping n f place rest) (skipping n f place (rest ++ more)) (grows-skipping more n f place rest)
-grows-answered more Passed f at place rest text = refl
-grows-answered more (Refused e) f at place rest text = refl
+grows-answered : (more : List ℕ) (a : Answer) (f : Facts) (at offset : ℕ) (rest text : List ℕ) → GrowsTurn more (answered a f offset rest (Next f at text)) (answered a f offset (rest ++ more) (Next f at (text ++ more)))
+grows-answered more (Took g) f at offset rest text = refl
+grows-answered more (Counts n) f at offset rest text = over more (skipping n f offset rest) (skipping n f offset (rest ++ more)) (grows-skipping more n f offset rest)
+grows-answered more Passed f at offset rest text = refl
+grows-answered more (Refused e) f at offset rest text = refl
 
 promised : (more : List ℕ) (p : Bool) (rows : List CommitRow) (t : Turn) → GrowsTurn more (Over (Stop (cond (not p) (Whole rows) Short))) t
 promised more true rows t = tt
@@ -176,7 +176,7 @@ unfolding part
 grows-part more p f at text =
     choose more (repeats p) (all (turn p) f at text) (turned (turn p f at text) Next) (all (turn p) f at (text ++ more)) (turned (turn p f at (text ++ more)) Next)
     (grows-all more (turn p) (turn-falls p) (grows-turn more p) f at text)
-    (grows-turned more (turn p f at text) (turn p f at (text ++ more)) (length text) Next Next (turn-falls p f at text) (grows-turn more p f at text) (λ g place rest lt. refl))
+    (grows-turned more (turn p f at text) (turn p f at (text ++ more)) (length text) Next Next (turn-falls p f at text) (grows-turn more p f at text) (λ g offset rest lt. refl))
 
 grows-parts : (more : List ℕ) (ps : List Part) (f : Facts) (at : ℕ) (text : List ℕ) → Grows more (parts ps f at text) (parts ps f at (text ++ more))
 unfolding parts
@@ -193,7 +193,7 @@ done_or : (more : List ℕ) (b : Bool) (rows : List CommitRow) (s t : Turn) → 
 done_or more true rows s t g = tt
 done_or more false rows s t g = g
 
-grows-opened : (more : List ℕ) (r : Result Command StreamFault) (f : Facts) (at : ℕ) (rest : List ℕ) → GrowsTurn more (opened r f at rest) (opened r f at (rest ++ more))
+grows-opened : (more : List ℕ) (r : Result Opening StreamFault) (f : Facts) (at : ℕ) (rest : List ℕ) → GrowsTurn more (opened r f at rest) (opened r f at (rest ++ more))
 grows-opened more (Err e) f at rest = refl
 grows-opened more (Ok c) f at rest = done_or more (is_done c) f.rows (behind_command (parts (parts_of c) (with_line c f) at rest)) (behind_command (parts (parts_of c) (with_line c f) at (rest ++ more)))
     (grows-behind more (parts (parts_of c) (with_line c f) at rest) (parts (parts_of c) (with_line c f) at (rest ++ more)) (grows-parts more (parts_of c) (with_line c f) at rest))

@@ -8,11 +8,11 @@ use Rattle.fast_export.specs.declared.fault.StreamFault.{StreamFault}
 use Rattle.fast_export.specs.declared.fault.StreamFault.TheVariants as faults
 use Rattle.fast_export.specs.declared.grammar.Part.{Part}
 use Rattle.fast_export.specs.declared.grammar.Part.TheVariants as parts_are
-use Rattle.fast_export.specs.declared.grammar.Command.{Command}
 use Rattle.fast_export.specs.Lines.{Lined, Line, Nothing, Cut, TooLong, line_of, behind, begins, mark_of, number_of, value_of, mark_digits, is_file, is_inline}
-use Rattle.fast_export.specs.Grammar.{may_end, repeats, parts_of, is_done, word_text}
+use Rattle.fast_export.specs.Grammar.{Opening, may_end, repeats, parts_of, is_done, word_text}
 use Rattle.fast_export.specs.Facts.{Facts, start, settled, rows_of, Answer, Took, Counts, Passed, Refused, takes, opens, with_line, mark_line, commit_mark, marks_commit, commit_id, data_line, by_mark, parent_of, with_parent, parent_text, parent_line, merge_line, file_line, other_command, names}
-use Rattle.fast_export.specs.Stream.{Step, Next, Stop, ◌>>=◌, Outcome, Bad, Whole, Short, Turn, Again, Over, turned, repeated, all, at_end, skipping, answered, on_line, turn, part, parts, behind_command, opened, on_first_line, command, outcome, stream, answer, EndsExactly}
+use Rattle.fast_export.specs.Stream.{Step, Next, Stop, ◌>>=◌, Outcome, Bad, Whole, Short, Turn, Again, Over, turned, repeated, all, at_end, skipping, answered, on_line, turn, part, parts, behind_command, opened, on_first_line, command, outcome, stream, answer}
+use Rattle.fast_export_laws.specs.Laws.{EndsExactly}
 
 abbrev IsOfLine : StreamFault → Type 0
 IsOfLine (faults.BadLine at) = Unit {0}
@@ -52,11 +52,11 @@ ResultOfLine (Err e) = IsOfLine e
 
 -- ---- choices
 
-opt : {A B : Type 0} (P : B → Type 0) (g : A → B) (o : Option A) (d : B) → ((x : A) → P (g x)) → P d → P (option_map_or g o d)
+pub opt : {A B : Type 0} (P : B → Type 0) (g : A → B) (o : Option A) (d : B) → ((x : A) → P (g x)) → P d → P (option_map_or g o d)
 opt P g None d h k = k
 opt P g (Some x) d h k = h x
 
-test : {B : Type 0} (P : B → Type 0) (b : Bool) (x y : B) → P x → P y → P (cond b x y)
+pub test : {B : Type 0} (P : B → Type 0) (b : Bool) (x y : B) → P x → P y → P (cond b x y)
 test P true x y h k = h
 test P false x y h k = k
 
@@ -171,8 +171,8 @@ on_line-kind p f at text TooLong = tt
 part-kind : (p : Part) (f : Facts) (at : ℕ) (text : List ℕ) → StepOfLine (part p f at text)
 unfolding part
 part-kind p f at text =
-    test StepOfLine (repeats p) (all (turn p) f at text) (turned (turn p f at text) Next) (all-kind (turn p) (λ g place rest. on_line-kind p g place rest (line_of rest)) f at text)
-    (turned-kind (turn p f at text) Next (on_line-kind p f at text (line_of text)) (λ g place rest. tt))
+    test StepOfLine (repeats p) (all (turn p) f at text) (turned (turn p f at text) Next) (all-kind (turn p) (λ g offset rest. on_line-kind p g offset rest (line_of rest)) f at text)
+    (turned-kind (turn p f at text) Next (on_line-kind p f at text (line_of text)) (λ g offset rest. tt))
 
 parts-kind : (ps : List Part) (f : Facts) (at : ℕ) (text : List ℕ) → StepOfLine (parts ps f at text)
 unfolding parts
@@ -183,7 +183,7 @@ behind-kind : (s : Step) → StepOfLine s → TurnOfLine (behind_command s)
 behind-kind (Next f at text) h = tt
 behind-kind (Stop o) h = h
 
-opened-kind : (r : Result Command StreamFault) (f : Facts) (at : ℕ) (more : List ℕ) → ResultOfLine r → TurnOfLine (opened r f at more)
+opened-kind : (r : Result Opening StreamFault) (f : Facts) (at : ℕ) (more : List ℕ) → ResultOfLine r → TurnOfLine (opened r f at more)
 opened-kind (Err e) f at more h = h
 opened-kind (Ok c) f at more h =
     test TurnOfLine (is_done c) (Over (Stop (Whole f.rows))) (behind_command (parts (parts_of c) (with_line c f) at more)) tt

@@ -1,5 +1,0 @@
-use Rattle.fast_export.proofs.OfLines.{ends}
-use Rattle.fast_export.proofs.law.the_end_is_a_fault_of_short_texts.Goals as goal
-
-pub returns : goal.returns
-returns c = ends
