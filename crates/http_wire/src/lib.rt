@@ -1,0 +1,43 @@
+//! HTTP/1.1 on the wire (RFC 9112): requests in, whatever pieces their bytes come in.
+//!
+//! ```
+//! let mut held = Held::new(alloc)?;
+//! match read_request(alloc, &mut source, &mut sink, &mut held, Room { body: 1 << 20 }) {
+//!     Got::Request(request) => answer(request),
+//! ```
+#![tactic(auto)]
+
+mod asking;
+mod body;
+mod chunk;
+mod fault;
+mod fields;
+mod fill;
+mod find;
+mod head;
+mod held;
+mod law;
+mod line;
+mod look;
+mod opening;
+mod parse;
+mod part;
+mod read;
+mod request;
+mod rest;
+mod room;
+mod scan;
+mod settle;
+mod taking;
+mod window;
+mod words;
+
+pub use fault::WireFault;
+pub use head::{GotHead, read_head};
+pub use held::Held;
+pub use law::a_text_asks_one_thing;
+pub use part::read_part;
+pub use read::{Got, read_request};
+pub use request::Request;
+pub use rest::{Part, Rest};
+pub use room::Room;
