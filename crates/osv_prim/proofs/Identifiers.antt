@@ -19,7 +19,7 @@ split_by (c ∷ cs) = elim (cases_Bool (is_dot c)) [
   | inr other ↦ let r = split_by cs in rw other (ap (onto_first c) r)
 ]
 
-then_other : (r s : Ordering) → r ≢ Equal → ordering_then r s ≡ r
+pub then_other : (r s : Ordering) → r ≢ Equal → ordering_then r s ≡ r
 then_other Less s ne = refl
 then_other Equal s ne = absurd (ne refl)
 then_other Greater s ne = refl

@@ -1,7 +1,7 @@
 -- Comparing runs of digits as texts compares the numbers that they spell.
 use Rattle.std.proofs.Common.{◌≡◌, ◌≢◌, ℕ, suc, ◌+◌, ◌-◌, ◌*◌, ◌^◌, ◌<◌, ◌≤◌, ◌==◌, Bool, true, false, ◌&&◌, List, [], ◌∷◌, length, refl, sym, ap, subst, ◌∙◌, arith, inl, inr}
 use Rattle.std.proofs.Math.Nat.{mul-le-mul_left, pow-le-pow_right, pow-succ'}
-use Rattle.std.proofs.lemmas.Bool.{cases_Bool, eqb-true}
+use Rattle.std.proofs.lemmas.Bool.{and_parts, cases_Bool, eqb-true}
 use Rattle.std.proofs.lemmas.Bool.Decides.{nat_tests}
 use Rattle.std.specs.Char.{is_ascii_digit}
 use Rattle.std.specs.Cmp.{nat_cmp_is, ranks}
@@ -10,10 +10,6 @@ use Rattle.std.specs.Ordering.{nat_cmp, ordering_then, MatchOrdering}
 use Rattle.std.specs.declared.cmp.Ordering.{Ordering}
 use Rattle.std.specs.declared.cmp.Ordering.TheVariants.{Less, Equal, Greater}
 use Rattle.osv_prim.specs.Digits.{all_digits, number, without_zeros}
-
-both : (a b : Bool) → (a && b) ≡ true → (a ≡ true) × (b ≡ true)
-both true b e = (refl, e)
-both false b e = absurd cc
 
 digit_is : (d : ℕ) → is_ascii_digit d ≡ true → (48 ≤ d) × (d ≤ 57)
 digit_is d e = (grind (arith, nat_tests), grind (arith, nat_tests))
@@ -29,7 +25,7 @@ pub number-below : (ds : List ℕ) → all_digits ds ≡ true → number ds < 10
 unfolding number
 number-below [] e = omega arith
 number-below (d ∷ ds) e =
-    let h = both (is_ascii_digit d) (all_digits ds) e in
+    let h = and_parts (is_ascii_digit d) (all_digits ds) e in
     let r = number-below ds h.1 in
     rw (pow-succ' 10 (length ds)) (digit_part d (10 ^ length ds) (number ds) (digit_is d h.0).1 r)
 
@@ -45,7 +41,7 @@ pub digits-without_zeros : (ds : List ℕ) → all_digits ds ≡ true → all_di
 unfolding without_zeros
 digits-without_zeros [] e = refl
 digits-without_zeros (d ∷ ds) e = elim (cases_Bool (d == 48)) [
-  | inl zero ↦ rw zero (digits-without_zeros ds (both (is_ascii_digit d) (all_digits ds) e).1)
+  | inl zero ↦ rw zero (digits-without_zeros ds (and_parts (is_ascii_digit d) (all_digits ds) e).1)
   | inr other ↦ rw other e
 ]
 
@@ -64,10 +60,10 @@ is_led : (ds : List ℕ) → all_digits ds ≡ true → IsLed (without_zeros ds)
 unfolding number without_zeros
 is_led [] e = tt
 is_led (d ∷ ds) e = elim (cases_Bool (d == 48)) [
-  | inl zero ↦ rw zero (is_led ds (both (is_ascii_digit d) (all_digits ds) e).1)
+  | inl zero ↦ rw zero (is_led ds (and_parts (is_ascii_digit d) (all_digits ds) e).1)
   | inr other ↦
       let ne : d ≢ 48 = grind (arith, nat_tests) in
-      rw other (led_by d (10 ^ length ds) (number ds) (digit_is d (both (is_ascii_digit d) (all_digits ds) e).0).0 ne)
+      rw other (led_by d (10 ^ length ds) (number ds) (digit_is d (and_parts (is_ascii_digit d) (all_digits ds) e).0).0 ne)
 ]
 
 -- of two runs that no zero leads the longer is greater
@@ -99,8 +95,8 @@ same_length [] [] ex ey l = refl
 same_length [] (y ∷ ys) ex ey l = absurd (omega arith)
 same_length (x ∷ xs) [] ex ey l = absurd (omega arith)
 same_length (x ∷ xs) (y ∷ ys) ex ey l =
-    let hx = both (is_ascii_digit x) (all_digits xs) ex in
-    let hy = both (is_ascii_digit y) (all_digits ys) ey in
+    let hx = and_parts (is_ascii_digit x) (all_digits xs) ex in
+    let hy = and_parts (is_ascii_digit y) (all_digits ys) ey in
     let same : length ys ≡ length xs = omega arith in
     let by : number ys < 10 ^ length xs = subst (λ (n : ℕ). number ys < 10 ^ n) same (number-below ys hy.1) in
     let rest = same_length xs ys hx.1 hy.1 (sym same) in

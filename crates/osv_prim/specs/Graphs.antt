@@ -9,6 +9,7 @@ use Rattle.osv_prim.specs.declared.oid.CommitRow.{CommitRow}
 use Rattle.osv_prim.specs.declared.event.Event.{Event}
 use Rattle.osv_prim.specs.declared.event.EventKind.{EventKind}
 use Rattle.osv_prim.specs.declared.event.EventKind.TheVariants.{Introduced, Fixed, LastAffected, Limit}
+pub use Rattle.osv_prim.specs.Events.{is_kind, means_all}
 
 -- ---- graphs: lists of rows, each a commit's id and the ids of its parents
 
@@ -81,17 +82,6 @@ abbrev pub IsRoot : List CommitRow → List ℕ → Type 0
 IsRoot graph c = Any (λ r. (r.oid ≡ c) × (r.parents ≡ [])) graph
 
 -- ---- the events of a GIT range
-
-abbrev pub is_kind : EventKind → EventKind → Bool
-is_kind Introduced Introduced = true
-is_kind Fixed Fixed = true
-is_kind LastAffected LastAffected = true
-is_kind Limit Limit = true
-is_kind k other = false
-
--- every commit is meant: an introduced `0` and a limit `*`
-abbrev pub means_all : Event → Bool
-means_all e = (is_kind Introduced e.kind && bytes_eq e.value (codes "0")) || (is_kind Limit e.kind && bytes_eq e.value (codes "*"))
 
 -- a value can be read: every commit is meant, or it is forty hex digits
 abbrev pub is_read : Event → Bool

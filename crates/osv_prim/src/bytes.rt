@@ -4,7 +4,7 @@ use crate::memory::Memory;
 use std::alloc::Global;
 use std::marker::Model;
 
-/// Bytes on the heap, which contracts see as their list.
+/// Bytes on the heap, which contracts see as their list. They need be no text.
 #[derive(Debug, Drop)]
 pub struct Bytes {
     bytes: Vec<u8>,
@@ -26,7 +26,7 @@ impl Bytes {
         Bytes { bytes }
     }
 
-    /// A copy of these bytes, in one allocation.
+    /// A copy of these bytes, in one allocation. Only memory can fail.
     pub fn copy_of(alloc: Global, bytes: &[u8]) -> Result<Bytes, Memory>
         ensures { IfOk result (λ b. b ≡ bytes.now) }
     {
@@ -42,18 +42,21 @@ impl Bytes {
         self.bytes
     }
 
+    /// The bytes.
     pub fn as_slice(&self) -> &[u8]
         ensures { result.now ≡ self.now }
     {
         self.bytes.as_slice()
     }
 
+    /// How many bytes there are.
     pub fn len(&self) -> usize
         ensures { result ≡ length self.now }
     {
         self.bytes.len()
     }
 
+    /// Whether there is no byte.
     pub fn is_empty(&self) -> bool
         ensures { IsTrue result ↔ (length self.now ≡ 0) }
     {

@@ -34,7 +34,9 @@ pub fn digits_cmp(a: &[u8], b: &[u8]) -> Ordering
 /// A text's longest front of ASCII digits, and what stands behind it.
 #[derive(Clone, Copy)]
 pub struct Digits<'a> {
+    /// The digits; there may be none.
     pub run: &'a [u8],
+    /// What stands behind them. It is empty, or begins with a byte that is no digit.
     pub rest: &'a [u8],
 }
 
@@ -53,7 +55,7 @@ fn behind_digits(text: &[u8]) -> &[u8]
     rest
 }
 
-/// Cuts the digits off a text's front; there may be none.
+/// Cuts the ASCII digits off a text's front. The cost is one look at each digit.
 pub fn split_digits(text: &[u8]) -> Digits<'_>
     ensures run { result.run.now ≡ digit_front text.now }
     ensures numeric { all_digits result.run.now ≡ true }

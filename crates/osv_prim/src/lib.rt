@@ -1,4 +1,10 @@
-//! Ids, package keys, and the small types that contracts see as texts, bytes and lists.
+//! Ids, package keys, and the small types that contracts see as texts, bytes and lists:
+//!
+//! ```text
+//! let package = PackageKey::normal(alloc, "PyPI", "Friendly_Bard")?;
+//! let asked = PackageKey::normal(alloc, "PyPI", "friendly-bard")?;
+//! let is_matched = package.matches(&asked); // true
+//! ```
 #![tactic(auto)]
 
 mod bound;
@@ -6,8 +12,11 @@ mod bytes;
 mod digits;
 mod event;
 mod id;
+pub mod laws;
 mod list;
+mod lists;
 mod memory;
+mod numeral;
 mod oid;
 mod package;
 mod read_version;
@@ -23,7 +32,9 @@ pub use digits::{Digits, digits_cmp, identifiers_cmp, split_digits};
 pub use event::{Event, EventKind, RangeKind};
 pub use id::{Id, IdFault};
 pub use list::List;
+pub use lists::Lists;
 pub use memory::Memory;
+pub use numeral::{read_u64, read_u64_in};
 pub use oid::{CommitRow, NotAnId, Oid};
 pub use package::{PackageKey, base_of};
 pub use read_version::ReadVersion;

@@ -4,7 +4,7 @@ use crate::memory::Memory;
 use std::alloc::Global;
 use std::marker::Model;
 
-/// Values in a row, which contracts see as their list.
+/// Values in a row on the heap, which contracts see as their list.
 #[derive(Debug, Drop)]
 pub struct List<T> {
     items: Vec<T>,
@@ -28,7 +28,7 @@ impl<T> List<T> {
         }
     }
 
-    /// An empty list with room for `count` members, and no more.
+    /// An empty list with room for `count` members, and no more. Only memory can fail.
     pub fn with_capacity(alloc: Global, count: usize) -> Result<List<T>, Memory>
         ensures { IfOk result (λ l. l ≡ []) }
     {
@@ -51,32 +51,35 @@ impl<T> List<T> {
         self.items
     }
 
+    /// The members, in order.
     pub fn as_slice(&self) -> &[T]
         ensures { result.now ≡ self.now }
     {
         self.items.as_slice()
     }
 
+    /// How many members there are.
     pub fn len(&self) -> usize
         ensures { result ≡ length self.now }
     {
         self.items.len()
     }
 
+    /// Whether there is no member.
     pub fn is_empty(&self) -> bool
         ensures { IsTrue result ↔ (length self.now ≡ 0) }
     {
         self.items.is_empty()
     }
 
-    /// The member at a place, counted from 0.
-    pub fn get(&self, at: usize) -> Option<&T>
-        ensures { option_map (λ x. x.now) result ≡ slice_get self.now at }
+    /// The member at an index, from 0.
+    pub fn get(&self, index: usize) -> Option<&T>
+        ensures { option_map (λ x. x.now) result ≡ slice_get self.now index }
     {
-        self.items.get(at)
+        self.items.get(index)
     }
 
-    /// Puts a member at the end. A refused push changes nothing.
+    /// Puts a member at the end. Only memory can fail, and the list is then as it was.
     pub fn push(&mut self, value: T) -> Result<(), Memory>
     where
         T: Drop,

@@ -1,4 +1,4 @@
-ghost use Rattle.std.specs.Prelude.{◌≡◌, ◌↔◌, length, IsOk, Some, [], ◌∷◌, refl, nat_eq};
+ghost use Rattle.std.specs.Prelude.{◌≡◌, ◌↔◌, length, IfOk, IsOk, Some, [], ◌∷◌, refl, nat_eq};
 ghost use Rattle.std.specs.Result.{result_ok};
 ghost use Rattle.std.specs.List.{AllPass};
 ghost use Rattle.std.specs.Ordering.{nat_cmp};
@@ -10,6 +10,8 @@ ghost use Rattle.std.specs.Cmp.Rules.{hashing};
 ghost use Rattle.osv_prim.specs.Oids.{oid_of, text_of};
 
 use crate::list::List;
+use crate::memory::Memory;
+use std::alloc::Global;
 use std::cmp::Ordering;
 use std::hash::{Hash, Hasher};
 use std::marker::Model;
@@ -18,7 +20,8 @@ use std::marker::Model;
 #[derive(Clone, Copy, Debug, PartialEq, Eq)]
 pub struct NotAnId;
 
-/// The id of a git object, which contracts see as its bytes. Ids are ordered by their bytes.
+/// The id of a git object, 20 bytes (git's documentation, "gitglossary": object name). Contracts see it as
+/// the list of its bytes. Ids are ordered by their bytes.
 #[derive(Clone, Copy, Debug)]
 pub struct Oid {
     bytes: [u8; 20],
@@ -35,7 +38,7 @@ impl Model for Oid {
 }
 
 impl Oid {
-    /// The id that a text of 40 hex digits names, in either case.
+    /// The id that a text of 40 hex digits names, in either case. `NotAnId` for each other text.
     pub fn read(text: &[u8]) -> Result<Oid, NotAnId>
         ensures value { result_ok result ≡ oid_of text.now }
         ensures digits { IsOk result ↔ ((length text.now ≡ 40) × AllPass is_hex_digit text.now) }
@@ -105,9 +108,24 @@ impl Hash for Oid {
     }
 }
 
-/// A commit and its parents, in the order in which the commit names them.
+/// A row of a graph: a commit and its parents (git's documentation, "gitglossary": commit, parent).
 #[derive(Debug, Drop)]
 pub struct CommitRow {
+    /// The commit's id.
     pub oid: Oid,
+    /// The ids of its parents, in the order in which the commit names them. A root has none.
     pub parents: List<Oid>,
+}
+
+impl CommitRow {
+    /// A copy of the row. Only memory can fail.
+    pub fn copy(&self, alloc: Global) -> Result<CommitRow, Memory>
+        ensures { IfOk result (λ r. r ≡ self.now) }
+    {
+        let parents = Vec::from_slice(alloc, self.parents.as_slice())?;
+        Ok(CommitRow {
+            oid: self.oid,
+            parents: List::from_vec(parents),
+        })
+    }
 }

@@ -1,17 +1,21 @@
-ghost use Rattle.std.specs.Prelude.{◌≡◌, IfOk, Some, refl, nat_eq};
+ghost use Rattle.std.specs.Prelude.{◌≡◌, [], ◌∷◌, IfOk, Some, refl, nat_eq};
 ghost use Rattle.std.specs.Ordering.{nat_cmp};
 ghost use Rattle.std.specs.Cmp.{partial_equiv_from_equiv};
 ghost use Rattle.std.specs.Cmp.Lexicographic.{slice_cmp, pointwise, nat_list_cmp_total, nat_list_eq_equiv, texts_ties, texts_po};
+ghost use Rattle.std.proofs.Common.{rules};
+ghost use Rattle.std.specs.Cmp.Rules.{hashing};
 ghost use Rattle.osv_prim.specs.Repos.{normal_repo, without_end};
 
 use crate::memory::Memory;
 use crate::text::Text;
 use std::alloc::Global;
 use std::cmp::Ordering;
+use std::hash::{Hash, Hasher};
 use std::marker::Model;
 
-/// The key of a repository: its URL without one final `/`, and then without one final `.git`.
-/// Contracts see it as a text.
+/// The key of a repository: its URL without one final `/`, and then without one final `.git`, as
+/// `https://example.org/r` of `https://example.org/r.git/`. Contracts see it as the list of its bytes.
+/// A key is made normal once: that of the URL `u//` is `u/`, and that of the URL `u/` is `u`.
 #[derive(Debug, Drop)]
 pub struct RepoKey {
     text: Text,
@@ -26,7 +30,7 @@ impl Model for RepoKey {
 }
 
 impl RepoKey {
-    /// The key of the repository at a URL. It is made once, and a key is not read again.
+    /// The key of the repository at a URL, in one allocation. Only memory can fail.
     pub fn normal(alloc: Global, url: &str) -> Result<RepoKey, Memory>
         ensures { IfOk result (λ r. r ≡ normal_repo url.now) }
     {
@@ -35,6 +39,24 @@ impl RepoKey {
         })
     }
 
+    /// The key whose text this is, which is not made normal again: as a key was written by `as_str`, so
+    /// it is read back. Each text is the key of some URL. Only memory can fail.
+    pub fn from_key(alloc: Global, key: &str) -> Result<RepoKey, Memory>
+        ensures { IfOk result (λ r. r ≡ key.now) }
+    {
+        Ok(RepoKey {
+            text: Text::copy_of(alloc, key)?,
+        })
+    }
+
+    /// A copy of the key. Only memory can fail.
+    pub fn copy(&self, alloc: Global) -> Result<RepoKey, Memory>
+        ensures { IfOk result (λ r. r ≡ self.now) }
+    {
+        RepoKey::from_key(alloc, self.as_str())
+    }
+
+    /// The text of the key.
     pub fn as_str(&self) -> &str
         ensures { result.now ≡ self.now }
     {
@@ -87,5 +109,15 @@ impl Ord for RepoKey {
 
     fn cmp(&self, other: &RepoKey) -> Ordering {
         self.as_str().cmp(other.as_str())
+    }
+}
+
+impl Hash for RepoKey {
+    ghost hash_input = { λ r. r ∷ [] };
+
+    ghost respects_eq = { Prim.search (hashing, rules) };
+
+    fn hash<H: Hasher>(&self, state: &mut H) {
+        state.write(self.as_str().as_bytes());
     }
 }

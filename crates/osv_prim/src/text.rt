@@ -1,14 +1,18 @@
-ghost use Rattle.std.specs.Prelude.{◌≡◌, ◌↔◌, IfOk, IsTrue, Some, refl, nat_eq, string_bytes, length};
+ghost use Rattle.std.specs.Prelude.{◌≡◌, [], ◌∷◌, ◌↔◌, IfOk, IsTrue, Some, refl, nat_eq, string_bytes, length};
 ghost use Rattle.std.specs.Ordering.{nat_cmp};
 ghost use Rattle.std.specs.Cmp.{partial_equiv_from_equiv};
 ghost use Rattle.std.specs.Cmp.Lexicographic.{slice_cmp, pointwise, nat_list_cmp_total, nat_list_eq_equiv, texts_ties, texts_po};
+ghost use Rattle.std.proofs.Common.{rules};
+ghost use Rattle.std.specs.Cmp.Rules.{hashing};
 
 use crate::memory::Memory;
 use std::alloc::Global;
 use std::cmp::Ordering;
+use std::hash::{Hash, Hasher};
 use std::marker::Model;
 
-/// A text in UTF-8, which contracts see as its bytes. Texts are ordered by their bytes.
+/// A text in UTF-8 on the heap, which contracts see as the list of its bytes. Texts are compared and
+/// ordered byte by byte, and a text that is another's front is below it.
 #[derive(Debug, Drop)]
 pub struct Text {
     text: String,
@@ -30,13 +34,20 @@ impl Text {
         Text { text }
     }
 
-    /// A copy of a text, in one allocation.
+    /// A copy of a text, in one allocation. Only memory can fail.
     pub fn copy_of(alloc: Global, text: &str) -> Result<Text, Memory>
         ensures { IfOk result (λ t. t ≡ text.now) }
     {
         Ok(Text {
             text: String::from_str(alloc, text)?,
         })
+    }
+
+    /// A copy of the text, in one allocation. Only memory can fail.
+    pub fn copy(&self, alloc: Global) -> Result<Text, Memory>
+        ensures { IfOk result (λ t. t ≡ self.now) }
+    {
+        Text::copy_of(alloc, self.as_str())
     }
 
     /// The string that holds the text, without a copy.
@@ -46,12 +57,14 @@ impl Text {
         self.text
     }
 
+    /// The text.
     pub fn as_str(&self) -> &str
         ensures { result.now ≡ self.now }
     {
         self.text.as_str()
     }
 
+    /// The bytes of the text.
     pub fn as_bytes(&self) -> &[u8]
         ensures { result.now ≡ self.now }
     {
@@ -65,6 +78,7 @@ impl Text {
         self.text.len()
     }
 
+    /// Whether it has no byte.
     pub fn is_empty(&self) -> bool
         ensures { IsTrue result ↔ (length self.now ≡ 0) }
     {
@@ -107,5 +121,15 @@ impl Ord for Text {
 
     fn cmp(&self, other: &Text) -> Ordering {
         self.as_str().cmp(other.as_str())
+    }
+}
+
+impl Hash for Text {
+    ghost hash_input = { λ t. t ∷ [] };
+
+    ghost respects_eq = { Prim.search (hashing, rules) };
+
+    fn hash<H: Hasher>(&self, state: &mut H) {
+        state.write(self.as_bytes());
     }
 }
