@@ -1,6 +1,6 @@
 ghost use Rattle.std.specs.Prelude.{◌≡◌, IfOk, option_map};
 ghost use Rattle.std.specs.Option.{is_some};
-ghost use Rattle.version_order.specs.Bounds.{bound_of, bounds_of, contains, is_endless, is_lowest};
+ghost use Rattle.version_order.specs.Bounds.{bound_of, bounds_of, contains};
 ghost use Rattle.version_order.specs.Versions.{reading};
 
 use crate::order::Order;
@@ -43,7 +43,7 @@ pub fn read_bounds(
 {
     let mut bounds = Vec::with_capacity(alloc, events.len())?;
     for event in events {
-        let Some(bound) = bound_of(alloc, order, event.kind, event.value.as_str())? else {
+        let Some(bound) = bound_of(alloc, order, event)? else {
             return Ok(None);
         };
         bounds.push((event.kind, bound))?;
@@ -54,17 +54,16 @@ pub fn read_bounds(
 fn bound_of(
     alloc: Global,
     order: Order,
-    kind: EventKind,
-    value: &str,
+    event: &Event,
 ) -> Result<Option<Bound<Version>>, Memory>
-    ensures { IfOk result (λ o. o ≡ bound_of order kind value.now) }
+    ensures { IfOk result (λ o. o ≡ bound_of order event.now) }
 {
-    if is_lowest(kind, value) {
+    if event.is_lowest() {
         Ok(Some(Bound::Lowest))
-    } else if is_endless(kind, value) {
+    } else if event.is_endless() {
         Ok(Some(Bound::Endless))
     } else {
-        bound_at(alloc, order, value)
+        bound_at(alloc, order, event.value.as_str())
     }
 }
 
@@ -75,23 +74,5 @@ fn bound_at(alloc: Global, order: Order, value: &str) -> Result<Option<Bound<Ver
         Ok(version) => Ok(Some(Bound::At(version))),
         Err(ReadVersion::NotAVersion) => Ok(None),
         Err(ReadVersion::Memory) => Err(Memory),
-    }
-}
-
-fn is_lowest(kind: EventKind, value: &str) -> bool
-    ensures { result ≡ is_lowest kind value.now }
-{
-    match kind {
-        EventKind::Introduced => value == "0",
-        EventKind::Fixed | EventKind::LastAffected | EventKind::Limit => false,
-    }
-}
-
-fn is_endless(kind: EventKind, value: &str) -> bool
-    ensures { result ≡ is_endless kind value.now }
-{
-    match kind {
-        EventKind::Limit => value == "*",
-        EventKind::Introduced | EventKind::Fixed | EventKind::LastAffected => false,
     }
 }
