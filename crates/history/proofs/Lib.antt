@@ -6,3 +6,4 @@ pub mod Lookups
 pub mod AnyRule
 pub mod Conditions
 pub mod Places
+pub mod Pieces

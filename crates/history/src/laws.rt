@@ -15,6 +15,8 @@ ghost use Rattle.history.specs.Entries.{History, caller, imports, uptos, newest,
 ghost use Rattle.history.specs.Prefixes.{advisories, records, grown, rows_of, grows, graph, keys, graphs, graphs_from};
 ghost use Rattle.history.specs.Lookups.{record_of, has_import, has_grow};
 ghost use Rattle.evaluate.specs.Hits.{graph_of};
+ghost use Rattle.history.specs.Pieces.{GitRange, repo_of, kind_of};
+ghost use Rattle.history.specs.declared.piece_kind.PieceKind.TheVariants.{Extend, Carry};
 ghost use Rattle.history.specs.Conditions.{IsOfVersion, IsWithin};
 ghost use Rattle.history.specs.Legality.{marks, IsLegal, IsLegalBySentences, MayCome, Extends};
 
@@ -127,4 +129,11 @@ pub fn conditions_last()
     ensures now { (key : List ℕ) (rows : List CommitRow) (h : List Past) → IsOfVersion key (grows h key) rows h → IsPrefix (graph h key) rows }
     ensures new_rows { (g rows : List CommitRow) → of_rows.IsLegal rows → IsPrefix g rows → Extends g (drop (length g) rows) }
     ensures weight { (h : History) (e : Past) → weight (h ++ e ∷ []) ≡ weight h + entry_weight e }
+{}
+
+/// What a piece's kind says: a set that is carried on is of the same import and the same graph, and one
+/// that is extended of the same import.
+pub fn pieces_are_of_what_stayed()
+    ensures carry { (b came : List Past) (x : GitRange) → kind_of came x ≡ Carry → (record_of (b ++ came) x.advisory.id ≡ record_of b x.advisory.id) × (graph (b ++ came) (repo_of x) ≡ graph b (repo_of x)) }
+    ensures extend { (b came : List Past) (x : GitRange) → kind_of came x ≡ Extend → record_of (b ++ came) x.advisory.id ≡ record_of b x.advisory.id }
 {}

@@ -12,5 +12,7 @@
 
 pub mod laws;
 mod past;
+mod piece_kind;
 
 pub use past::Past;
+pub use piece_kind::PieceKind;
