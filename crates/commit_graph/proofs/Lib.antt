@@ -1,4 +1,3 @@
-pub mod Cuts
 pub mod Extended
 pub mod Faulty
 pub mod Growth

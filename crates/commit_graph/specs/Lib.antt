@@ -1,4 +1,3 @@
+pub mod Extended
 pub mod Faults
 pub mod Linked
-pub mod Pieces
-pub mod Extended

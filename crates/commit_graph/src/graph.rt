@@ -2,9 +2,8 @@ ghost use Rattle.std.specs.Prelude.{◌≡◌, ◌↔◌, ◌+◌, ◌-◌, ◌^
 ghost use Rattle.osv_prim.specs.Graphs.{has, number_of, id_at, parents_at, IsLegal};
 ghost use Rattle.commit_graph.specs.Linked.{weight_of};
 
-use crate::number_lists::NumberLists;
 use indexmap::IndexSet;
-use osv_prim::{CommitRow, Ledger, Memory, Oid, Steps};
+use osv_prim::{CommitRow, Ledger, Lists, Memory, Oid, Steps};
 use std::alloc::Global;
 use std::marker::Model;
 
@@ -17,7 +16,7 @@ pub struct Graph {
     // The ids of the rows, in their order.
     ids: IndexSet<Oid>,
     // The numbers of each row's parents.
-    parents: NumberLists,
+    parents: Lists<u32>,
 }
 
 impl Model for Graph {
@@ -47,7 +46,7 @@ impl Graph {
         Ok(Graph {
             rows: Vec::with_capacity(alloc, count)?,
             ids: IndexSet::with_capacity(alloc, count)?,
-            parents: NumberLists::with_capacity(alloc, count)?,
+            parents: Lists::with_capacity(alloc, count, count)?,
         })
     }
 
@@ -137,9 +136,9 @@ impl Graph {
         let Graph {
             mut rows,
             mut ids,
-            parents,
+            mut parents,
         } = self;
-        let parents = parents.push(numbers)?;
+        parents.push(numbers)?;
         let _ = ids.insert(row.oid)?;
         rows.push(row)?;
         Ok(Graph { rows, ids, parents })

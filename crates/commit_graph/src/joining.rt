@@ -82,7 +82,7 @@ impl Graph {
         let rows = self.rows();
         let mut graph = Graph::with_capacity(alloc, rows.len().saturating_add(room))?;
         for (number, row) in rows.iter().enumerate() {
-            graph = graph.with_row(copy_of(alloc, row)?, self.numbers_at(number))?;
+            graph = graph.with_row(row.copy(alloc)?, self.numbers_at(number))?;
         }
         Ok(graph)
     }
@@ -104,16 +104,6 @@ impl Graph {
     }
 }
 
-fn copy_of(alloc: Global, row: &CommitRow) -> Result<CommitRow, Memory>
-    ensures { IfOk result (λ r. r ≡ row.now) }
-{
-    let parents = Vec::from_slice(alloc, row.parents.as_slice())?;
-    Ok(CommitRow {
-        oid: row.oid,
-        parents: List::from_vec(parents),
-    })
-}
-
 // The graph and a row, unless its commit is there already. `numbers` is room to work in.
 fn joined_by<L: Ledger>(
     alloc: Global,
@@ -131,8 +121,7 @@ fn joined_by<L: Ledger>(
     ensures records { steps.new.record_count ≡ steps.old.record_count }
 {
     if is_new(&graph, row, index, most, numbers, steps)? {
-        let row = copy_of(alloc, row)?;
-        Ok(graph.with_row(row, numbers.as_slice())?)
+        Ok(graph.with_row(row.copy(alloc)?, numbers.as_slice())?)
     } else {
         Ok(graph)
     }

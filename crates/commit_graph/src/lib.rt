@@ -11,7 +11,6 @@
 mod fault;
 mod graph;
 mod joining;
-mod number_lists;
 
 pub use fault::GraphFault;
 pub use graph::Graph;

@@ -1,7 +1,7 @@
 -- What marking some numbers leaves.
-use Rattle.std.proofs.Common.{◌≡◌, ℕ, ◌⊎◌, inl, inr, Bool, true, false, ◌||◌, eqb, List, get_or, Contains, refl, sym, ap, ◌∙◌}
+use Rattle.std.proofs.Common.{◌≡◌, ℕ, ◌⊎◌, inl, inr, Bool, true, false, ◌||◌, eqb, List, get_or, Contains, sym, ap, ◌∙◌}
 use Rattle.std.specs.List.{list_any}
-use Rattle.std.proofs.lemmas.Bool.{or_cases, eqb-true, eq-eqb}
+use Rattle.std.proofs.lemmas.Bool.{or_cases, or_right, eqb-true, eq-eqb}
 use Rattle.std.proofs.lemmas.List.{get_or_default}
 use Rattle.std.proofs.lemmas.List.Folds.{list_any_at, Any-from_list_any}
 
@@ -9,17 +9,13 @@ use Rattle.std.proofs.lemmas.List.Folds.{list_any_at, Any-from_list_any}
 abbrev pub IsMarked : List ℕ → List Bool → List Bool → Type 0
 IsMarked ns old new = (n : ℕ) → get_or new n false ≡ (get_or old n false || list_any (λ p. eqb p n) ns)
 
-or_true : (a b : Bool) → b ≡ true → true ≡ (a || b)
-or_true true b e = refl
-or_true false b e = sym e
-
 module _ (ns : List ℕ) (old new : List Bool) (marked : IsMarked ns old new) where
   pub still_marked : (n : ℕ) → get_or old n false ≡ true → get_or new n false ≡ true
   still_marked n h = marked n ∙ ap (λ (b : Bool). b || list_any (λ p. eqb p n) ns) h
 
   pub now_marked : (n : ℕ) → Contains ns n → get_or new n false ≡ true
   now_marked n c =
-      marked n ∙ sym (or_true (get_or old n false) (list_any (λ p. eqb p n) ns) (list_any_at (λ p. eqb p n) ns c.0 n c.1 (eq-eqb (get_or ns c.0 n) n c.2)))
+      marked n ∙ (or_right (get_or old n false) (list_any (λ p. eqb p n) ns) (list_any_at (λ p. eqb p n) ns c.0 n c.1 (eq-eqb (get_or ns c.0 n) n c.2)))
 
   pub why_marked : (n : ℕ) → get_or new n false ≡ true → (get_or old n false ≡ true) ⊎ Contains ns n
   why_marked n h =

@@ -1,6 +1,6 @@
 ghost use Rattle.std.specs.Prelude.{◌≡◌, ◌+◌, ◌<◌, ◌≤◌, ◌||◌, ℕ, length, slice_index_or, false, IfOk, IfSome};
 ghost use Rattle.std.specs.List.{list_all};
-ghost use Rattle.osv_prim.specs.Graphs.{id_at, is_kind, is_named, is_read, means_all, names_all, has_limit};
+ghost use Rattle.osv_prim.specs.Graphs.{id_at, is_kind, is_named, is_read, names_all, has_limit};
 ghost use Rattle.osv_prim.specs.Oids.{oid_of};
 ghost use Rattle.osv_prim.specs.declared.event.EventKind.TheVariants.{Fixed};
 ghost use Rattle.git_range.specs.Rows.{AreRows, IsNamedRow, is_closed};
@@ -20,18 +20,7 @@ pub fn all_read(events: &[Event]) -> bool
 fn is_read(event: &Event) -> bool
     ensures { result ≡ is_read event.now }
 {
-    means_all(event) || oid_of(event).is_some()
-}
-
-// Every commit is meant.
-fn means_all(event: &Event) -> bool
-    ensures { result ≡ means_all event.now }
-{
-    match event.kind {
-        EventKind::Introduced => event.value.as_str() == "0",
-        EventKind::Limit => event.value.as_str() == "*",
-        EventKind::Fixed | EventKind::LastAffected => false,
-    }
+    event.means_all() || oid_of(event).is_some()
 }
 
 fn oid_of(event: &Event) -> Option<Oid>
@@ -70,7 +59,7 @@ pub fn names_all(kind: EventKind, events: &[Event]) -> bool
 {
     events
         .iter()
-        .any(|event| is_kind(kind, event.kind) && means_all(event))
+        .any(|event| is_kind(kind, event.kind) && event.means_all())
 }
 
 /// For each of the first rows, whether an event of the kind names its commit.

@@ -10,7 +10,7 @@ pub invariant_of-result : goal.invariant_of-result
 invariant_of-result c =
     let absent : has c.self.inside.rows.items c.args.row.oid ≡ false = ap (λ (g : List CommitRow). has g c.args.row.oid) c.self.view_is ∙ c.requires.absent in
     let missing : list_any (bytes_eq c.args.row.oid) c.self.inside.ids.keys ≡ false = ap (list_any (bytes_eq c.args.row.oid)) c.self.invariant.ids ∙ absent in
-    rw (c.in_ok-push.ensures.items, c.in_ok-insert.ensures.keys, missing, c.in_ok-parents.ensures)
+    rw (c.in_ok-push-2.ensures.items, c.in_ok-insert.ensures.keys, missing, c.in_ok-push.ensures.ok)
     (IsGraph-push c.self.inside.rows.items c.self.inside.ids.keys c.self.inside.parents c.args.row c.args.numbers.now c.self.invariant absent
     (ap (λ (g : List CommitRow). map (id_at g) c.args.numbers.now) c.self.view_is ∙ c.requires.parents)
     (subst (λ (g : List CommitRow). All (λ p. p < length g) c.args.numbers.now) (sym c.self.view_is) c.requires.earlier)
