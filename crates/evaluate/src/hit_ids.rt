@@ -29,7 +29,7 @@ impl Model for HitIds {
 }
 
 impl HitIds {
-    /// The hits of no imports.
+    /// The hits of no imports. It takes no memory.
     pub fn new(alloc: Global) -> HitIds
         ensures { result ≡ [] }
     {
@@ -64,7 +64,7 @@ impl HitIds {
         Ok(())
     }
 
-    /// The ids, ascending.
+    /// The ids, ascending by their bytes. Only want of memory is refused.
     pub fn into_vec(self, alloc: Global) -> Result<Vec<Id>, AllocError>
         ensures { IfOk result (λ v. v.items ≡ self) }
     {

@@ -1,4 +1,10 @@
 //! Which advisories hit what is asked: the definitions, and plain functions for them.
+//!
+//! ```
+//! let mut found = HitIds::new(alloc);
+//! found.import(alloc, advisory, repos, &subject, steps)?;
+//! let ids = found.into_vec(alloc)?;
+//! ```
 #![tactic(auto)]
 
 mod by_commit;
