@@ -14,6 +14,8 @@ use Rattle.book_model.specs.declared.answers.ImportFault.TheVariants as import_f
 use Rattle.book_model.specs.declared.answers.GrowFault.{GrowFault}
 use Rattle.book_model.specs.declared.answers.GrowFault.TheVariants as grow_faults
 use Rattle.book_model.specs.declared.answers.Pulled.{Pulled}
+use Rattle.book_model.specs.declared.answers.Newest.{Newest}
+use Rattle.book_model.specs.declared.answers.Kept.{Kept}
 use Rattle.book_model.specs.declared.answers.Pulled.TheVariants as pulled
 use Rattle.book_model.specs.declared.answers.Taken.{Taken}
 use Rattle.book_model.specs.declared.answers.Taken.TheVariants as taken
@@ -21,8 +23,9 @@ use Rattle.book_model.specs.declared.answers.Strange.{Strange}
 use Rattle.book_model.specs.declared.answers.Progress.TheVariants as progress
 use Rattle.book_model.specs.State.{Kind, Plan, Piece, Assemble, Build, State}
 use Rattle.book_model.specs.Jobs.{JobName, Outcome}
-use Rattle.book_model.specs.Steps.{Imports, grown_by, Grows, GoesOut, Pulls, Takes, GoesOn, Publishes, Finishes, GivesBack}
-use Rattle.book_model.specs.Desk.{Caller, IsEvent, AddsOwn, AddsNone}
+use Rattle.book_model.specs.Steps.{Imports, grown_by, Grows, GoesOut, Pulls, Takes, GoesOn, Publishes, Finishes, GivesBack, CountsImports, ShowsRepo, Looks}
+use Rattle.book_model.specs.Desk.{Caller, alone_after, IsEvent, AddsOwn, AddsNone}
+use Rattle.book_model.proofs.Owned.{some_of}
 
 -- what a call found of the caller's own
 found_own : (does : State → State → Type 0) (old new : Caller) → (v : IsEvent does old new) → own old.me v.found.history ≡ own old.me old.front
@@ -131,3 +134,31 @@ strange-adds done e old new v = adds-none (λ s t. Finishes old.me done s (Err e
 
 pub give_back-adds : {U : Type 0} (job : JobName) (answer : Result U Strange) (old new : Caller) → IsEvent (λ s t. GivesBack old.me job s answer t) old new → AddsNone old new
 give_back-adds job answer old new v = adds-none (λ s t. GivesBack old.me job s answer t) old new v (give_back-history old.me job v.found v.left answer v.acts)
+
+-- ---- calls that only look
+
+pub imports-adds : (count : ℕ) (old new : Caller) → IsEvent (λ s t. CountsImports s count t) old new → AddsNone old new
+imports-adds count old new v = adds-none (λ s t. CountsImports s count t) old new v (ap (λ (s : State). s.history) v.acts.1)
+
+repo-history : {G : Type 0} (rows : G → List CommitRow) (key : List ℕ) (old new : State) (answer : Result (ℕ × G) Memory) → ShowsRepo rows key old answer new → new.history ≡ old.history
+repo-history rows key old new (Ok found) st = ap (λ (s : State). s.history) st.2
+repo-history rows key old new (Err memory) st = ap (λ (s : State). s.history) st
+
+pub repo-adds : {G : Type 0} (rows : G → List CommitRow) (key : List ℕ) (answer : Result (ℕ × G) Memory) (old new : Caller) → IsEvent (λ s t. ShowsRepo rows key s answer t) old new → AddsNone old new
+repo-adds rows key answer old new v = adds-none (λ s t. ShowsRepo rows key s answer t) old new v (repo-history rows key v.found v.left answer v.acts)
+
+look-history : {S : Type 0} (stands_for : S → List Past → Type 0) (numbers : List ℕ) (old new : State) (answer : Result (Newest S) Memory) (found : List (Kept S)) → Looks stands_for numbers old answer found new → new.history ≡ old.history
+look-history stands_for numbers old new (Ok now) found st = ap (λ (s : State). s.history) st.3
+look-history stands_for numbers old new (Err memory) found st = ap (λ (s : State). s.history) st.1
+
+pub look-adds : {S : Type 0} (stands_for : S → List Past → Type 0) (numbers : List ℕ) (answer : Result (Newest S) Memory) (found : List (Kept S)) (old new : Caller) → IsEvent (λ s t. Looks stands_for numbers s answer found t) old new → AddsNone old new
+look-adds stands_for numbers answer found old new v = adds-none (λ s t. Looks stands_for numbers s answer found t) old new v (look-history stands_for numbers v.found v.left answer found v.acts)
+
+-- ---- a book on which nobody else acts
+
+-- what one call left is what the next one finds
+pub next-finds : (first second : State → State → Type 0) (old mid new : Caller) (build : Option Build) → old.alone ≡ Some build → (v : IsEvent first old mid) → (w : IsEvent second mid new) → (w.found.build ≡ v.left.build) × (w.found.history ≡ v.left.history)
+next-finds first second old mid new build alone v w =
+    let now : mid.alone ≡ Some v.left.build = v.alone ∙ ap (λ (a : Option (Option Build)). alone_after a v.left.build) alone in
+    let u = some_of (λ (b : Option Build). (w.found.build ≡ b) × (w.found.history ≡ mid.front)) mid.alone v.left.build now w.untouched in
+    (u.0, u.1 ∙ v.front)

@@ -15,13 +15,16 @@ ghost use Rattle.book_model.specs.declared.answers.ImportFault.{ImportFault};
 ghost use Rattle.book_model.specs.declared.answers.GrowFault.{GrowFault};
 ghost use Rattle.book_model.specs.declared.answers.Pulled.{Pulled};
 ghost use Rattle.book_model.specs.declared.answers.Taken.{Taken};
+ghost use Rattle.book_model.specs.declared.answers.Newest.{Newest};
+ghost use Rattle.book_model.specs.declared.answers.Kept.{Kept};
+ghost use Rattle.history.specs.declared.past.Past.{Past};
 ghost use Rattle.book_model.specs.declared.answers.Progress.{Progress};
 ghost use Rattle.book_model.specs.declared.answers.Progress.TheVariants as progress;
 ghost use Rattle.book_model.specs.declared.answers.Strange.{Strange};
 ghost use Rattle.book_model.specs.declared.answers.Pulled.TheVariants as pulled;
 ghost use Rattle.book_model.specs.State.{Build, State, is_out, cells_in};
 ghost use Rattle.book_model.specs.Jobs.{JobName, Outcome, owner};
-ghost use Rattle.book_model.specs.Steps.{Enrols, Imports, Grows, GoesOut, Pulls, Takes, Finishes, GivesBack};
+ghost use Rattle.book_model.specs.Steps.{Enrols, Imports, CountsImports, ShowsRepo, Grows, Looks, GoesOut, Pulls, Takes, Finishes, GivesBack};
 ghost use Rattle.book_model.specs.Conditions.{MayCall, MayGrow, MayPull};
 ghost use Rattle.book_model.specs.Sound.{IsSound, Keeps};
 ghost use Rattle.book_model.specs.Desk.{Caller, IsEvent, AddsOwn, AddsNone};
@@ -82,4 +85,11 @@ pub fn jobs_are_out_to_one_caller()
     ensures never { (by goal out : ℕ) (old new : State) → IsSound old → list_any is_out (cells_in old.build) ≡ false → Pulls (λ n. n) (λ n b p. Unit {0}) by goal old (Ok (pulled.Out out)) new → ⊥ }
     ensures owned { (by : ℕ) (old : State) (b : Build) (job : JobName) (new : State) → GoesOut (λ n. n) (λ n b p. Unit {0}) by old b job new → owner new job ≡ Some by }
     ensures spent { (s : State) (job : JobName) → job.build ≤ newest s.history → owner s job ≡ None }
+{}
+
+/// Calls that only look. A snapshot stands here for its imports, and a graph for its rows.
+pub fn looking_adds_nothing()
+    ensures imports { (count : ℕ) (old new : Caller) → IsEvent (λ s t. CountsImports s count t) old new → AddsNone old new }
+    ensures repo { (key : List ℕ) (answer : Result (ℕ × List CommitRow) Memory) (old new : Caller) → IsEvent (λ s t. ShowsRepo (λ g. g) key s answer t) old new → AddsNone old new }
+    ensures look { (numbers : List ℕ) (answer : Result (Newest (List Past)) Memory) (found : List (Kept (List Past))) (old new : Caller) → IsEvent (λ s t. Looks (λ x p. x ≡ p) numbers s answer found t) old new → AddsNone old new }
 {}
