@@ -1,5 +1,6 @@
 pub mod Prefixes
 pub mod Forward
+pub mod Holding
 pub mod Walking
 pub mod Backward
 pub mod LetThrough

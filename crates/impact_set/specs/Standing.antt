@@ -1,8 +1,7 @@
 -- What a set knows of the commits of a graph, and for which range and graph it stands (our own).
-use Rattle.std.specs.Prelude.{◌≡◌, ℕ, ◌<◌, Bool, true, false, ◌&&◌, ◌==◌, Option, Some, None, replicate, List, length, reverse, slice_index_or}
-use Rattle.std.specs.List.{list_any, list_all}
-use Rattle.osv_prim.specs.Graphs.{id_at, is_named, is_read, IsBeforeLimit}
-use Rattle.osv_prim.specs.declared.event.EventKind.{EventKind}
+use Rattle.std.specs.Prelude.{◌≡◌, ℕ, ◌<◌, Bool, true, false, ◌&&◌, Option, Some, None, replicate, List, length, reverse, slice_index_or}
+use Rattle.std.specs.List.{list_all}
+use Rattle.osv_prim.specs.Graphs.{id_at, is_read, IsBeforeLimit}
 use Rattle.osv_prim.specs.declared.oid.CommitRow.{CommitRow}
 use Rattle.osv_prim.specs.declared.event.Event.{Event}
 use Rattle.git_range.specs.Affected.{reaches, is_within_limits}
@@ -40,7 +39,3 @@ pub record AreBefore (events : List Event) (graph : List CommitRow) (marks : Lis
   pub size : length marks ≡ length graph
   pub sound : (n : ℕ) → n < length graph → slice_index_or marks n false ≡ true → IsBeforeLimit graph events (id_at graph n)
   pub complete : (n : ℕ) → n < length graph → IsBeforeLimit graph events (id_at graph n) → slice_index_or marks n false ≡ true
-
--- of the rows of the graph, the numbers are those of the ones that an event of the kind names
-abbrev pub AreNamed : List CommitRow → EventKind → List Event → List ℕ → Type 0
-AreNamed graph kind events numbers = (n : ℕ) → n < length graph → list_any (λ x. x == n) numbers ≡ is_named kind events (id_at graph n)

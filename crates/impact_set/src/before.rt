@@ -1,8 +1,9 @@
-ghost use Rattle.std.specs.Prelude.{◌≡◌, ◌+◌, ◌<◌, ◌≤◌, ◌&&◌, ◌||◌, ◌==◌, ℕ, not, true, length, take, false, All, IfOk, slice_index_or};
-ghost use Rattle.std.specs.List.{list_any};
+ghost use Rattle.std.specs.Prelude.{◌≡◌, ◌+◌, ◌-◌, ◌<◌, ◌≤◌, ◌&&◌, ◌||◌, ℕ, not, length, take, true, false, All, IfOk, slice_index_or};
+ghost use Rattle.std.specs.List.Sorted.{IsNonDecreasing};
 ghost use Rattle.osv_prim.specs.Graphs.{id_at, is_named};
 ghost use Rattle.osv_prim.specs.declared.event.EventKind.TheVariants.{Limit};
-ghost use Rattle.impact_set.specs.Standing.{AreBefore, AreNamed};
+ghost use Rattle.impact_set.specs.Passing.{AreNumbers, has_number};
+ghost use Rattle.impact_set.specs.Standing.{AreBefore};
 
 use crate::bits::Bits;
 use crate::named::{is_among, numbers_named};
@@ -43,7 +44,7 @@ fn mark_new<L: Ledger>(
 )
     requires within { length old.now ≤ length graph.now }
     requires old { AreBefore events.now (take (length old.now) graph.now) old.now }
-    requires limits { AreNamed graph.now Limit events.now limits.now }
+    requires limits { AreNumbers graph.now Limit events.now limits.now }
     requires size { length marks.old ≡ length graph.now }
     requires same { (n : ℕ) → slice_index_or marks.old n false ≡ slice_index_or old.now n false }
     ensures before { AreBefore events.now graph.now marks.new }
@@ -52,80 +53,72 @@ fn mark_new<L: Ledger>(
     ensures records { steps.new.record_count ≡ steps.old.record_count }
 {
     // Its contract tells that the graph is legal.
-    let count = graph.len() as usize;
-    if !any_between(limits, old.len(), count) {
+    let _ = graph.len();
+    let end = end_of(limits);
+    if end <= old.len() {
         return;
     }
-    mark_back(graph, events, old, limits, marks, steps);
+    mark_back(graph, events, old, limits, end, marks, steps);
 }
 
-// Whether one of the numbers lies between these.
-fn any_between(numbers: &[u32], first: usize, end: usize) -> bool
-    ensures some { result ≡ true → (n : ℕ) × (first ≤ n) × (n < end) × (list_any (λ x. x == n) numbers.now ≡ true) }
-    ensures none { result ≡ false → (n : ℕ) → first ≤ n → n < end → list_any (λ x. x == n) numbers.now ≡ false }
+// One above the greatest number, or 0 where there is none.
+fn end_of(numbers: &[u32]) -> usize
+    requires { IsNonDecreasing numbers.now }
+    ensures above { All (λ n. n < result) numbers.now }
+    ensures last { 0 < result → has_number numbers.now (result - 1) ≡ true }
 {
-    for number in numbers {
-        if is_between(*number as usize, first, end) {
-            return true;
-        }
+    let count = numbers.len();
+    if count == 0 {
+        return 0;
     }
-    false
+    numbers[count - 1] as usize + 1
 }
 
-fn is_between(number: usize, first: usize, end: usize) -> bool
-    ensures some { result ≡ true → (first ≤ number) × (number < end) }
-    ensures none { result ≡ false → first ≤ number → number < end → ⊥ }
-{
-    first <= number && number < end
-}
-
-// From the last row down, the parents of a row are marked where a limit names it and it is new, or where
-// it is newly marked.
+// From the row before `end` down, the parents of a row are marked where a limit names it and it is new, or
+// where it is newly marked. No limit names a row from `end` on.
 fn mark_back<L: Ledger>(
     graph: &Graph,
     events: &[Event],
     old: &Bits,
     limits: &[u32],
+    end: usize,
     marks: &mut Bits,
     steps: &mut Steps<L>,
 )
     requires within { length old.now ≤ length graph.now }
     requires old { AreBefore events.now (take (length old.now) graph.now) old.now }
-    requires limits { AreNamed graph.now Limit events.now limits.now }
+    requires limits { AreNumbers graph.now Limit events.now limits.now }
+    requires end { end ≤ length graph.now }
+    requires above { All (λ n. n < end) limits.now }
     requires size { length marks.old ≡ length graph.now }
     requires same { (n : ℕ) → slice_index_or marks.old n false ≡ slice_index_or old.now n false }
     ensures before { AreBefore events.now graph.now marks.new }
     ensures steps { steps.new.graph ≤ steps.old.graph + length graph.now }
     ensures records { steps.new.record_count ≡ steps.old.record_count }
 {
-    let mut at = graph.len() as usize;
+    // Its contract tells that the graph is legal, and that row numbers fit 32 bits.
+    let _ = graph.len();
+    let mut at = end;
     while at > 0 {
         at -= 1;
-        if is_due(at, old, limits, marks) {
-            mark_all(graph.parents_at(at as u32, steps), marks);
+        let row = at as u32;
+        if is_due(row, old, limits, marks) {
+            marks.set_all(graph.parents_at(row, steps));
         }
     }
 }
 
 // Whether the parents of a row have still to be marked.
-fn is_due(at: usize, old: &Bits, limits: &[u32], marks: &Bits) -> bool
-    requires { at < length marks.now }
-    ensures settled { at < length old.now → result ≡ (slice_index_or marks.now at false && not (slice_index_or old.now at false)) }
-    ensures new { length old.now ≤ at → result ≡ (slice_index_or marks.now at false || list_any (λ x. x == at) limits.now) }
+fn is_due(row: u32, old: &Bits, limits: &[u32], marks: &Bits) -> bool
+    requires within { row < length marks.now }
+    requires limits { IsNonDecreasing limits.now }
+    ensures settled { row < length old.now → result ≡ (slice_index_or marks.now row false && not (slice_index_or old.now row false)) }
+    ensures new { length old.now ≤ row → result ≡ (slice_index_or marks.now row false || has_number limits.now row) }
 {
+    let at = row as usize;
     if at < old.len() {
         marks.get(at) && !old.get(at)
     } else {
-        marks.get(at) || is_among(limits, at)
-    }
-}
-
-fn mark_all(numbers: &[u32], marks: &mut Bits)
-    requires { All (λ n. n < length marks.old) numbers.now }
-    ensures size { length marks.new ≡ length marks.old }
-    ensures each { (n : ℕ) → slice_index_or marks.new n false ≡ (slice_index_or marks.old n false || list_any (λ p. p == n) numbers.now) }
-{
-    for number in numbers {
-        marks.set(*number as usize);
+        marks.get(at) || is_among(limits, row)
     }
 }
