@@ -1,17 +1,18 @@
 -- The commands that the words of the command line may be (our own).
-use Rattle.std.specs.Prelude.{ℕ, ◌&&◌, Bool, true, false, nat_lt, nat_le, List, [], ◌∷◌, length, map, Option, Some, None, option_map, option_and_then, unwrap_or, if◌then◌else◌, codes}
+use Rattle.std.specs.Prelude.{ℕ, ◌&&◌, Bool, true, false, nat_lt, List, [], ◌∷◌, length, map, Option, Some, None, option_map, option_and_then, unwrap_or, if◌then◌else◌, codes}
 use Rattle.std.specs.Option.{option_map_or}
 use Rattle.std.specs.Borrow.{Bor}
 use Rattle.clap.specs.Words.{Row, Text, all_of, first_of}
 use Rattle.osv_prim.specs.declared.package.PackageKey.{PackageKey}
 use Rattle.osv_prim.specs.declared.subject.Subject.{Subject}
 use Rattle.osv_prim.specs.declared.subject.Subject.TheVariants.{Package, Commit, CommitIn}
-use Rattle.osv_prim.specs.Digits.{all_digits, number}
+use Rattle.osv_prim.specs.Numerals.{u64_in}
 use Rattle.osv_prim.specs.Oids.{oid_of}
 use Rattle.osv_prim.specs.Packages.{normal_name}
 use Rattle.settings.specs.Ranges.{AreInRange, IsBetween, default_settings}
 use Rattle.settings.specs.declared.Settings.{Settings}
 use Rattle.settings.specs.declared.TheConstants.{MAX_INPUT_BYTES}
+use Rattle.command_line.specs.declared.number.TheConstants.{MAX_DIGITS}
 use Rattle.command_line.specs.declared.command.Command.{Command}
 use Rattle.command_line.specs.declared.command.Command.TheVariants as of
 use Rattle.command_line.specs.declared.table.CommandName.{CommandName}
@@ -26,18 +27,9 @@ use Rattle.command_line.specs.Grammar.{given}
 
 -- ---- numbers
 
--- 1 to 20 digits
-abbrev pub is_numeral : Text → Bool
-is_numeral text = nat_lt 0 (length text) && nat_le (length text) 20 && all_digits text
-
--- the number that a numeral spells, from the least to the most
-abbrev pub number_in : ℕ → ℕ → Text → Option ℕ
-number_in least most text =
-    if is_numeral text && nat_le least (number text) && nat_le (number text) most then Some (number text) else None
-
 -- the value of an option of a number, or what stands where the option is not used
 abbrev pub number_as : Takes → Option Text → Option ℕ
-number_as (Number least most default) value = option_map_or (number_in least most) value (Some default)
+number_as (Number least most default) value = option_map_or (u64_in MAX_DIGITS least most) value (Some default)
 number_as _ value = None
 
 -- the number is in the option's range
