@@ -1,6 +1,6 @@
 -- How the order of two releases follows from their first numbers.
 use Rattle.std.proofs.Common.{◌≡◌, ◌≢◌, ℕ, ◌+◌, ◌<◌, ◌≤◌, Bool, true, false, ◌&&◌, List, [], ◌∷◌, length, map, refl, sym, ap, ◌∙◌, arith, inl, inr}
-use Rattle.std.proofs.lemmas.Bool.{cases_Bool}
+use Rattle.std.proofs.lemmas.Bool.{and_parts, cases_Bool}
 use Rattle.std.proofs.lemmas.Bool.Decides.{nat_tests}
 use Rattle.std.specs.Char.{is_ascii_digit}
 use Rattle.std.specs.List.{list_all, onto_first, slice_split}
@@ -8,16 +8,13 @@ use Rattle.std.specs.Ordering.{nat_cmp, ordering_then}
 use Rattle.std.specs.declared.cmp.Ordering.{Ordering}
 use Rattle.std.specs.declared.cmp.Ordering.TheVariants.{Less, Equal, Greater}
 use Rattle.osv_prim.specs.Digits.{behind_digits, digit_front, filled, filled_cmp, is_dot, number}
+use Rattle.osv_prim.proofs.Identifiers.{then_other}
 use Rattle.order_pypi.specs.Grammar.{tail}
 use Rattle.order_pypi.specs.Key.{release_cmp, release_numbers}
 use Rattle.order_pypi.specs.Reading.{is_release_byte}
 
 abbrev pub AreReleaseBytes : List ℕ → Type 0
 AreReleaseBytes t = list_all is_release_byte t ≡ true
-
-both : (a b : Bool) → (a && b) ≡ true → (a ≡ true) × (b ≡ true)
-both true b e = (refl, e)
-both false b e = absurd cc
 
 no_dot : (c : ℕ) → is_ascii_digit c ≡ true → is_dot c ≡ false
 no_dot c e = grind (arith, nat_tests)
@@ -33,7 +30,7 @@ split_by : (t : List ℕ) → AreReleaseBytes t → slice_split is_dot t ≡ dig
 unfolding digit_front behind_digits parts_behind
 split_by [] e = refl
 split_by (c ∷ cs) e =
-    let h = both (is_release_byte c) (list_all is_release_byte cs) e in
+    let h = and_parts (is_release_byte c) (list_all is_release_byte cs) e in
     elim (cases_Bool (is_ascii_digit c)) [
       | inl digit ↦ let r = split_by cs h.1 in rw (digit, no_dot c digit) (ap (onto_first c) r)
       | inr other ↦ rw (other, dot_is c other h.0) refl
@@ -87,11 +84,6 @@ by_first a b p q =
     ∙ ap (ordering_then (nat_cmp (number (digit_front a)) (number (digit_front b))))
     (sym (left_on (behind_digits a) (later (behind_digits b))) ∙ sym (right_on (release_numbers (rest_of a)) (behind_digits b)))
 
-then_other : (r s : Ordering) → r ≢ Equal → ordering_then r s ≡ r
-then_other Less s ne = refl
-then_other Equal s ne = absurd (ne refl)
-then_other Greater s ne = refl
-
 pub decides : (a b x y : List ℕ) (r : Ordering) → AreReleaseBytes a → AreReleaseBytes b → x ≡ digit_front a → y ≡ digit_front b → r ≡ nat_cmp (number x) (number y) → r ≢ Equal → r ≡ release_cmp (release_numbers a) (release_numbers b)
 decides a b x y r p q ex ey e ne =
     let w : r ≡ nat_cmp (number (digit_front a)) (number (digit_front b)) = e ∙ ap (λ (l : List ℕ). nat_cmp (number l) (number y)) ex ∙ ap (λ (l : List ℕ). nat_cmp (number (digit_front a)) (number l)) ey in
@@ -113,7 +105,7 @@ pub rest_bytes : (t : List ℕ) → AreReleaseBytes t → AreReleaseBytes (rest_
 unfolding behind_digits
 rest_bytes [] e = refl
 rest_bytes (c ∷ cs) e =
-    let h = both (is_release_byte c) (list_all is_release_byte cs) e in
+    let h = and_parts (is_release_byte c) (list_all is_release_byte cs) e in
     elim (cases_Bool (is_ascii_digit c)) [
       | inl digit ↦ rw digit (rest_bytes cs h.1)
       | inr other ↦ rw other h.1

@@ -3,3 +3,4 @@ pub mod Key
 pub mod Laws
 pub mod Reading
 pub mod Slices
+pub mod Spelling
