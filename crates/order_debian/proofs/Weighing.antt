@@ -6,6 +6,7 @@ use Rattle.std.specs.Ordering.{ordering_then}
 use Rattle.std.specs.declared.cmp.Ordering.{Ordering}
 use Rattle.std.specs.declared.cmp.Ordering.TheVariants.{Less, Equal, Greater}
 use Rattle.osv_prim.specs.Digits.{behind_digits, digit_front, filled, filled_cmp, number}
+use Rattle.osv_prim.proofs.Runs.{behind_shorter}
 use Rattle.order_debian.specs.Cuts.{front, behind_front, first_weight, later}
 use Rattle.order_debian.specs.Turns.{Turn, Weight, character_before, digit_before, no_weight, ranks, turns, weight, weight_cmp, weights, weights_cmp}
 
@@ -99,23 +100,15 @@ front_shorter (c ∷ cs) = elim (cases_Bool (is_ascii_digit c)) [
   | inr other ↦ let r = front_shorter cs in rw other (omega arith)
 ]
 
-run_shorter : (cs : List ℕ) → length (behind_digits cs) ≤ length cs
-unfolding behind_digits
-run_shorter [] = omega arith
-run_shorter (c ∷ cs) = elim (cases_Bool (is_ascii_digit c)) [
-  | inl digit ↦ let r = run_shorter cs in rw digit (omega arith)
-  | inr other ↦ rw other (omega arith)
-]
-
 later_shorter : (c : ℕ) (cs : List ℕ) → length (later (c ∷ cs)) < length (c ∷ cs)
 unfolding behind_front behind_digits
 later_shorter c cs = elim (cases_Bool (is_ascii_digit c)) [
-  | inl digit ↦ let r = run_shorter cs in rw (digit, digit) (omega arith)
-  | inr other ↦ let r = run_shorter (behind_front cs) in let f = front_shorter cs in rw other (omega arith)
+  | inl digit ↦ let r = behind_shorter cs in rw (digit, digit) (omega arith)
+  | inr other ↦ let r = behind_shorter (behind_front cs) in let f = front_shorter cs in rw other (omega arith)
 ]
 
 later_no_longer : (cs : List ℕ) → length (later cs) ≤ length cs
-later_no_longer cs = let r = run_shorter (behind_front cs) in let f = front_shorter cs in omega arith
+later_no_longer cs = let r = behind_shorter (behind_front cs) in let f = front_shorter cs in omega arith
 
 pub shorter : (a b : List ℕ) → 0 < length a + length b → length (later a) + length (later b) < length a + length b
 shorter [] [] h = absurd (omega arith)

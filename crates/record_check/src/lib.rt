@@ -1,4 +1,10 @@
-//! What in an advisory can never match, or says two things.
+//! What in an advisory can never match, or says two things:
+//!
+//! ```text
+//! for notice in notices(alloc, &advisory)?.as_slice() {
+//!     println!(rt; "{} {}", notice.kind.code(), notice.kind.name())?;
+//! }
+//! ```
 #![tactic(auto)]
 
 mod notice;

@@ -15,12 +15,14 @@ pub enum NoticeKind {
     NothingListed,
 }
 
-/// Something that the author of an advisory should know. Entries and ranges are counted from 0.
+/// Something that the author of an advisory should know.
 #[derive(Clone, Copy, Debug, PartialEq, Eq)]
 pub struct Notice {
+    /// What is noted.
     pub kind: NoticeKind,
+    /// The entry's index in `affected`, from 0.
     pub entry: u32,
-    /// The range of the entry, where it is of one.
+    /// The range's index in the entry, from 0, where it is of a range.
     pub range: Option<u32>,
 }
 

@@ -51,11 +51,7 @@ pub fn read_bounds(
     Ok(Some(bounds))
 }
 
-fn bound_of(
-    alloc: Global,
-    order: Order,
-    event: &Event,
-) -> Result<Option<Bound<Version>>, Memory>
+fn bound_of(alloc: Global, order: Order, event: &Event) -> Result<Option<Bound<Version>>, Memory>
     ensures { IfOk result (λ o. o ≡ bound_of order event.now) }
 {
     if event.is_lowest() {

@@ -15,14 +15,17 @@ use std::cmp::Ordering;
 /// A version of one of the orders. Comparisons take no memory.
 #[derive(Debug, Drop)]
 pub enum Version {
+    /// A semantic version (SemVer 2.0.0).
     SemVer(SemverKey),
+    /// A version of Python's (PEP 440).
     Pypi(PypiKey),
+    /// A version of Debian's (Debian Policy, 5.6.12).
     Debian(DebianKey),
 }
 
 impl Version {
     /// The version that a text spells in an order. It takes a small number of allocations, of the text's
-    /// length together.
+    /// length together. `NotAVersion` where the order has no reading of the text.
     pub fn read(alloc: Global, order: Order, text: &str) -> Result<Version, ReadVersion>
         ensures version { IfOk result (λ v. reading order text.now ≡ Some v) }
         ensures refused { result ≡ Err ReadVersion.NotAVersion → reading order text.now ≡ None }
@@ -34,6 +37,7 @@ impl Version {
         }
     }
 
+    /// The order that it is a version of.
     pub fn order(&self) -> Order
         ensures { result ≡ version_order self.now }
     {
