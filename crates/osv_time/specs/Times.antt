@@ -1,6 +1,6 @@
 -- The times of advisories (RFC 3339, 5.6, "date-time"; OSV schema 1.6, "modified"). That letters are capitals, that the
 -- zone is Z, that a fraction has at most nine digits and that no second is a leap second is our own.
-use Rattle.std.specs.Prelude.{ℕ, ◌+◌, ◌-◌, ◌*◌, ◌/◌, Bool, ◌&&◌, ◌==◌, nat_le, List, [], ◌∷◌, length, take, drop, Option, Some, None, option_and_then, if◌then◌else◌, ℤ, pos, ◌+ℤ◌, ◌*ℤ◌, codes}
+use Rattle.std.specs.Prelude.{ℕ, ◌+◌, ◌-◌, ◌*◌, ◌^◌, Bool, ◌&&◌, ◌==◌, nat_le, List, [], ◌∷◌, length, take, drop, Option, Some, None, option_and_then, if◌then◌else◌, ℤ, pos, ◌+ℤ◌, ◌*ℤ◌, codes}
 use Rattle.std.specs.Char.{is_ascii_digit}
 use Rattle.std.specs.List.{list_all, zip}
 use Rattle.std.specs.Str.{bytes_eq}
@@ -22,13 +22,9 @@ fraction (c ∷ cs) =
     if c == 46 then (if bytes_eq (behind_digits cs) (codes "Z") && nat_le 1 (length (digit_front cs)) && nat_le (length (digit_front cs)) 9 then Some (digit_front cs) else None)
     else (if bytes_eq (c ∷ cs) (codes "Z") then Some [] else None)
 
--- The first digit counts this many nanoseconds, and each further one a tenth of the one before it.
-abbrev pub tenths : ℕ → List ℕ → ℕ
-tenths unit [] = 0
-tenths unit (d ∷ ds) = (d - 48) * unit + tenths (unit / 10) ds
-
+-- the nanoseconds of a fraction of a second: its digits as a number, with zeros behind them to nine digits
 abbrev pub fraction_nanos : List ℕ → ℕ
-fraction_nanos digits = tenths 100000000 digits
+fraction_nanos digits = number digits * 10 ^ (9 - length digits)
 
 -- the day number from 1970-01-01 of a date that the Gregorian calendar has
 abbrev pub day_of : ℕ → ℕ → ℕ → Option ℤ

@@ -1,6 +1,6 @@
 ghost use Rattle.std.specs.Prelude.{◌≡◌, ◌+◌, ◌-◌, ◌*◌, ◌<◌, ◌≤◌, ◌^◌, IfSome, IsTrue, option_map, length, drop, take};
 ghost use Rattle.osv_prim.specs.Digits.{number};
-ghost use Rattle.osv_time.specs.Times.{has_form, fits, fraction, fraction_nanos, tenths};
+ghost use Rattle.osv_time.specs.Times.{has_form, fits, fraction, fraction_nanos};
 
 use osv_prim::split_digits;
 
@@ -69,7 +69,7 @@ pub fn fraction(text: &[u8]) -> Option<&[u8]>
     }
 }
 
-/// The nanoseconds of a fraction of a second.
+/// The nanoseconds of a fraction of a second: its first digit tells tenths, the next hundredths.
 pub fn fraction_nanos(digits: &[u8]) -> u64
     requires { length digits.now ≤ 9 }
     ensures { result ≡ fraction_nanos digits.now }
