@@ -1,5 +1,6 @@
 -- A walk over the tokens of a value tells how deep it nests, and whether its numbers have values.
 use Rattle.std.proofs.Common.{◌≡◌, ℕ, suc, ◌+◌, ◌-◌, ◌≤◌, Bool, true, false, ◌&&◌, cond, List, [], ◌∷◌, ◌++◌, Option, Some, None, is_some, nat_lt, refl, sym, ap, ap₂, ◌∙◌, arith, append_assoc, append-nil, true≢false}
+use Rattle.std.proofs.lemmas.Bool.{and_from, and_parts}
 use Rattle.std.proofs.lemmas.Bool.Decides.{nat_tests}
 use Rattle.json.specs.Token.{Token}
 use Rattle.json.specs.Json as tree
@@ -31,13 +32,6 @@ passes : (b : Bool) (d : ℕ) (f : ℕ → Bool) → b ≡ true → f d ≡ true
 passes true d f e h = h
 passes false d f e h = absurd (true≢false (sym e))
 
-both : (a b : Bool) → a ≡ true → b ≡ true → (a && b) ≡ true
-both a b e h = ap₂ (λ x y. x && y) e h
-
-apart : (a b : Bool) → (a && b) ≡ true → (a ≡ true) × (b ≡ true)
-apart true b e = (refl, e)
-apart false b e = absurd (true≢false (sym e))
-
 below : (d : ℕ) → nat_lt d max_depth ≡ true → d + 1 ≤ max_depth
 below d e = grind (arith, nat_tests)
 
@@ -67,14 +61,14 @@ mutual
   good_items (tree.item j js) d ts h e =
       let first = good_value j (suc d) (items_tokens js ++ ts) (omega (arith, h)) (ap (suits (suc d)) (sym (append_assoc (json_tokens j) (items_tokens js) ts)) ∙ e) in
       let more = good_items js d ts h first.2 in
-      (omega (arith, first.0, more.0), both (fits j) (items_fit js) first.1 more.1, more.2)
+      (omega (arith, first.0, more.0), and_from (fits j) (items_fit js) first.1 more.1, more.2)
 
   good_members : (ms : Members) (d : ℕ) (ts : List Token) → d + 1 ≤ max_depth → suits (suc d) (members_tokens ms ++ ts) ≡ true → Good (d + 1) (members_depth ms) (members_fit ms) (suits d ts)
   good_members tree.no_members d ts h e = let back : suc d - 1 ≡ d = omega arith in (omega arith, refl, ap (λ x. suits x ts) (sym back) ∙ e)
   good_members (tree.member k j ms) d ts h e =
       let first = good_value j (suc d) (members_tokens ms ++ ts) (omega (arith, h)) (ap (suits (suc d)) (sym (append_assoc (json_tokens j) (members_tokens ms) ts)) ∙ e) in
       let more = good_members ms d ts h first.2 in
-      (omega (arith, first.0, more.0), both (fits j) (members_fit ms) first.1 more.1, more.2)
+      (omega (arith, first.0, more.0), and_from (fits j) (members_fit ms) first.1 more.1, more.2)
 
 mutual
   value_suits : (j : Json) (d : ℕ) (ts : List Token) → d + depth j ≤ max_depth → fits j ≡ true → suits d ts ≡ true → suits d (json_tokens j ++ ts) ≡ true
@@ -90,14 +84,14 @@ mutual
   items_suit : (js : Items) (d : ℕ) (ts : List Token) → d + 1 + items_depth js ≤ max_depth → items_fit js ≡ true → suits d ts ≡ true → suits (suc d) (items_tokens js ++ ts) ≡ true
   items_suit tree.no_items d ts h f e = let back : suc d - 1 ≡ d = omega arith in ap (λ x. suits x ts) back ∙ e
   items_suit (tree.item j js) d ts h f e =
-      let p = apart (fits j) (items_fit js) f in
+      let p = and_parts (fits j) (items_fit js) f in
       ap (suits (suc d)) (append_assoc (json_tokens j) (items_tokens js) ts)
       ∙ value_suits j (suc d) (items_tokens js ++ ts) (omega (arith, h)) p.0 (items_suit js d ts (omega (arith, h)) p.1 e)
 
   members_suit : (ms : Members) (d : ℕ) (ts : List Token) → d + 1 + members_depth ms ≤ max_depth → members_fit ms ≡ true → suits d ts ≡ true → suits (suc d) (members_tokens ms ++ ts) ≡ true
   members_suit tree.no_members d ts h f e = let back : suc d - 1 ≡ d = omega arith in ap (λ x. suits x ts) back ∙ e
   members_suit (tree.member k j ms) d ts h f e =
-      let p = apart (fits j) (members_fit ms) f in
+      let p = and_parts (fits j) (members_fit ms) f in
       ap (suits (suc d)) (append_assoc (json_tokens j) (members_tokens ms) ts)
       ∙ value_suits j (suc d) (members_tokens ms ++ ts) (omega (arith, h)) p.0 (members_suit ms d ts (omega (arith, h)) p.1 e)
 

@@ -19,23 +19,24 @@ pub enum JsonFault {
     Memory,
 }
 
-/// Memory that reading wants, to be kept from one text to the next. It grows to the longest text.
+/// The memory that reading wants, to be kept from one text to the next: it grows to what the longest
+/// text asked for and is not given back before it is dropped.
 #[derive(Drop)]
-pub struct Room {
+pub struct Buffers {
     scratch: Scratch,
 }
 
-impl Room {
-    /// Room for no text yet, which takes no memory from the heap.
-    pub fn new(alloc: Global) -> Room {
-        Room {
+impl Buffers {
+    /// Buffers for no text yet, which take no memory from the heap.
+    pub fn new(alloc: Global) -> Buffers {
+        Buffers {
             scratch: Scratch::new(alloc),
         }
     }
 }
 
-/// A JSON text that was read. Its texts are borrowed from the bytes, or from the room where they had
-/// escapes. Contracts see it by `document_value`, as the value that `serde_json` reads.
+/// A JSON text that was read. Its texts are borrowed from the bytes, or from the buffers where they
+/// had escapes. Contracts see it by `document_value`, as the value that `serde_json` reads.
 #[derive(Drop)]
 pub struct Document<'a> {
     tape: Tape<'a>,
@@ -45,11 +46,13 @@ pub struct Document<'a> {
 impl<'a> Document<'a> {
     ghost use Rattle.json_view.specs.Views.{document_value, node_value};
 
-    /// The value that bytes are (RFC 8259). Of equal keys in an object the last counts.
+    /// The value that bytes are (RFC 8259). Of equal keys in an object the last counts. `NotJson` where they
+    /// are no value, nest too deep or have a number that is too large; `Memory` also where they are nearly
+    /// 4 GiB.
     pub fn read(
         alloc: Global,
         bytes: &'a [u8],
-        room: &'a mut Room,
+        buffers: &'a mut Buffers,
     ) -> Result<Document<'a>, JsonFault>
         ensures value { IfOk result (λ d. json bytes.now ≡ Some (document_value d)) }
         ensures not_json { result ≡ Err JsonFault.NotJson → json bytes.now ≡ None }
@@ -57,7 +60,7 @@ impl<'a> Document<'a> {
         let Ok(text) = simdutf8::basic::from_utf8(bytes) else {
             return Err(JsonFault::NotJson);
         };
-        match Tape::parse(text, &mut room.scratch, Vec::new(alloc)) {
+        match Tape::parse(text, &mut buffers.scratch, Vec::new(alloc)) {
             Ok(tape) if is_within(&tape) => Ok(Document { tape }),
             Ok(_) => Err(JsonFault::NotJson),
             Err(Error::Invalid) => Err(JsonFault::NotJson),

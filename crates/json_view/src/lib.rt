@@ -1,4 +1,10 @@
-//! JSON values that are looked into, read as `serde_json` reads them.
+//! JSON values that are looked into, read as `serde_json` reads them:
+//!
+//! ```text
+//! let mut buffers = Buffers::new(alloc);
+//! let document = Document::read(alloc, b"{\"id\":\"X-1\"}", &mut buffers)?;
+//! let id = document.root().member("id").and_then(|node| node.as_str()); // Some("X-1")
+//! ```
 #![tactic(auto)]
 
 mod document;
@@ -7,5 +13,5 @@ mod node;
 mod numbers;
 mod walk;
 
-pub use document::{Document, JsonFault, Room};
+pub use document::{Buffers, Document, JsonFault};
 pub use node::{Elements, Node};
