@@ -57,7 +57,7 @@ fn affects_version(
     let Some(text) = version else {
         return Ok(true);
     };
-    if entry.versions.contains(text) {
+    if entry.versions.contains(text.as_bytes()) {
         return Ok(true);
     }
     any_contains(alloc, ecosystem, text, entry.ranges.as_slice())

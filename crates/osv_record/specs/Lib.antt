@@ -1,6 +1,4 @@
 pub mod Advisories
-pub mod Texts
-pub mod TextsLeft
 pub mod Reading
 pub mod Imports
 pub mod Faults

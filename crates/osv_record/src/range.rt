@@ -5,12 +5,15 @@ use crate::record::PLACES;
 use osv_prim::{Event, List, Memory, RangeKind, RepoKey};
 use std::marker::Model;
 
-/// A range of versions or commits, told by events. A GIT range has the key of its repository, and no
-/// other range has one. It has fewer than 2^32 events.
+/// A range of versions or commits, told by events (OSV schema 1.6, "affected[].ranges[]"). A GIT range has
+/// the key of its repository, and no other range has one. It has fewer than 2^32 events.
 #[derive(Debug, Drop)]
 pub struct Range {
+    /// What the events name.
     pub kind: RangeKind,
+    /// The repository of a GIT range.
     pub repo: Option<RepoKey>,
+    /// The events, in the order of the advisory.
     pub events: List<Event>,
 }
 

@@ -10,9 +10,8 @@ use crate::members::{list_or_none, object_or, text_or};
 use crate::packages::package_of;
 use crate::ranges::ranges_of;
 use crate::record::{Affected, Record};
-use crate::texts::Texts;
-use json_view::{Document, Elements, JsonFault, Node, Room};
-use osv_prim::{Bytes, Id, IdFault, List, Stop, Text};
+use json_view::{Buffers, Document, Elements, JsonFault, Node};
+use osv_prim::{Bytes, Id, IdFault, List, Lists, Stop, Text};
 use std::alloc::Global;
 
 const MOST_BYTES: usize = 16_777_216;
@@ -77,12 +76,12 @@ fn version_of<'a>(node: Node<'_, 'a>) -> Result<&'a str, Stop<RecordFault>>
     text_or(node, RecordFault::WrongType(Member::Version))
 }
 
-fn versions_of(alloc: Global, mut elements: Elements) -> Result<Texts, Stop<RecordFault>>
-    ensures { Gives (λ t. t) result (each version_of (element_values elements.entry)) }
+fn versions_of(alloc: Global, mut elements: Elements) -> Result<Lists<u8>, Stop<RecordFault>>
+    ensures { Gives (λ l. l) result (each version_of (element_values elements.entry)) }
 {
-    let mut versions = Texts::with_capacity(alloc, elements.len())?;
+    let mut versions = Lists::with_capacity(alloc, elements.len(), 0)?;
     while let Some(node) = elements.next() {
-        versions = versions.with(version_of(node)?)?;
+        versions.push(version_of(node)?.as_bytes())?;
     }
     Ok(versions)
 }
@@ -135,11 +134,11 @@ fn record_of(alloc: Global, bytes: &[u8], node: Node) -> Result<Record, Stop<Rec
 fn document_of<'a>(
     alloc: Global,
     bytes: &'a [u8],
-    room: &'a mut Room,
+    buffers: &'a mut Buffers,
 ) -> Result<Document<'a>, Stop<RecordFault>>
     ensures { Gives document_value result (or_refuse RecordFault.NotJson (json bytes.now)) }
 {
-    match Document::read(alloc, bytes, room) {
+    match Document::read(alloc, bytes, buffers) {
         Ok(document) => Ok(document),
         Err(JsonFault::NotJson) => Err(Stop::Refused(RecordFault::NotJson)),
         Err(JsonFault::Memory) => Err(Stop::Memory),
@@ -150,13 +149,13 @@ fn document_of<'a>(
 pub(crate) fn record_from(
     alloc: Global,
     bytes: &[u8],
-    room: &mut Room,
+    buffers: &mut Buffers,
 ) -> Result<Record, Stop<RecordFault>>
     ensures { Gives (λ r. r) result (advisory bytes.now) }
 {
     if bytes.len() > MOST_BYTES {
         return Err(Stop::Refused(RecordFault::TooLarge));
     }
-    let document = document_of(alloc, bytes, room)?;
+    let document = document_of(alloc, bytes, buffers)?;
     record_of(alloc, bytes, document.root())
 }

@@ -4,22 +4,24 @@ ghost use Rattle.osv_record.specs.Advisories.{git_ranges, git_ranges_of, is_git}
 use crate::fault::RecordFault;
 use crate::range::Range;
 use crate::reading::record_from;
-use crate::texts::Texts;
-use json_view::Room;
-use osv_prim::{Bytes, Id, List, Memory, PackageKey, RangeKind, Stop, Text};
+use json_view::Buffers;
+use osv_prim::{Bytes, Id, List, Lists, Memory, PackageKey, RangeKind, Stop, Text};
 use std::alloc::Global;
 use std::marker::Model;
 
 // Places in a list are numbers of 32 bits.
 pub(crate) const PLACES: usize = 1 << 32;
 
-/// A package, and the ranges and versions of it that an advisory names as affected. It has fewer
-/// than 2^32 of each.
+/// A package, and the ranges and versions of it that an advisory names as affected (OSV schema 1.6,
+/// "affected[]"). It has fewer than 2^32 of each.
 #[derive(Debug, Drop)]
 pub struct Affected {
+    /// The package, where the entry names one; a GIT range needs none.
     pub package: Option<PackageKey>,
+    /// The ranges, in the order of the advisory.
     pub ranges: List<Range>,
-    pub versions: Texts,
+    /// The versions that are named one by one, as they are spelled, in the order of the advisory.
+    pub versions: Lists<u8>,
 }
 
 impl Model for Affected {
@@ -37,7 +39,7 @@ impl Affected {
     pub(crate) fn new(
         package: Option<PackageKey>,
         ranges: List<Range>,
-        versions: Texts,
+        versions: Lists<u8>,
     ) -> Result<Affected, Memory>
         ensures { IfOk result (λ a. a ≡ record { «package» = «package»; ranges = ranges; versions = versions }) }
     {
@@ -52,18 +54,22 @@ impl Affected {
     }
 }
 
-/// An advisory, and the bytes that it was read from. It has fewer than 2^32 entries, and over all
-/// its entries fewer than 2^32 GIT ranges.
+/// An advisory (OSV schema 1.6), and the bytes that it was read from. It has fewer than 2^32 entries, and
+/// over all its entries fewer than 2^32 GIT ranges.
 #[derive(Debug, Drop)]
 pub struct Record {
+    /// Its `id`.
     pub id: Id,
-    /// Nanoseconds since 1970.
+    /// Its `modified`, in nanoseconds since 1970-01-01T00:00:00Z, in UTC without leap seconds. An earlier
+    /// time is negative.
     pub modified: i128,
     /// The same time as it was written.
     pub modified_text: Text,
-    /// Whether it says when it was withdrawn.
+    /// Whether `withdrawn` is there and not null: since when isn't kept.
     pub withdrawn: bool,
+    /// Its entries, in the order of the advisory.
     pub affected: List<Affected>,
+    /// The bytes of the whole advisory, as they came in.
     pub text: Bytes,
 }
 
@@ -81,21 +87,25 @@ impl Model for Record {
 impl Record {
     ghost use Rattle.osv_record.specs.Reading.{advisory};
 
-    /// The advisory that bytes are (OSV schema 1.6), or the first refusal. The bytes are kept as
-    /// they came in, in one copy.
+    /// The advisory that bytes are (OSV schema 1.6), or the first refusal (`RecordFault`). The bytes are
+    /// kept as they came in, in one copy.
     pub fn read(alloc: Global, bytes: &[u8]) -> Result<Record, RecordFault>
         ensures value { IfOk result (λ r. advisory bytes.now ≡ Ok r) }
         ensures refused { IfErr result (λ e. e ≢ RecordFault.Memory → advisory bytes.now ≡ Err e) }
     {
-        Record::read_in(alloc, bytes, &mut Room::new(alloc))
+        Record::read_in(alloc, bytes, &mut Buffers::new(alloc))
     }
 
-    /// The same, in room that is kept from one advisory to the next, which is faster for many.
-    pub fn read_in(alloc: Global, bytes: &[u8], room: &mut Room) -> Result<Record, RecordFault>
+    /// The same, in buffers that are kept from one advisory to the next, which is faster for many.
+    pub fn read_in(
+        alloc: Global,
+        bytes: &[u8],
+        buffers: &mut Buffers,
+    ) -> Result<Record, RecordFault>
         ensures value { IfOk result (λ r. advisory bytes.now ≡ Ok r) }
         ensures refused { IfErr result (λ e. e ≢ RecordFault.Memory → advisory bytes.now ≡ Err e) }
     {
-        match record_from(alloc, bytes, room) {
+        match record_from(alloc, bytes, buffers) {
             Ok(record) => Ok(record),
             Err(Stop::Memory) => Err(RecordFault::Memory),
             Err(Stop::Refused(fault)) => Err(fault),

@@ -16,7 +16,7 @@ use crate::repo::{RepoPart, repo_in, url_of};
 use commit_graph::Graph;
 use evaluate::HitIds;
 use osv_prim::{Bytes, Id, Ledger, Memory, RepoKey, Steps, Stop, Subject};
-use osv_record::{Record, RecordFault, Room};
+use osv_record::{Record, RecordFault, Buffers};
 use std::alloc::{AllocError, Global};
 use std::sync::Arc;
 
@@ -27,10 +27,10 @@ pub struct LineFault {
     pub fault: RecordFault,
 }
 
-fn read_line(alloc: Global, line: NumberedLine, room: &mut Room) -> Result<Record, Stop<LineFault>>
+fn read_line(alloc: Global, line: NumberedLine, buffers: &mut Buffers) -> Result<Record, Stop<LineFault>>
     ensures { Gives (λ r. r) result (read_line (line_pair line.entry)) }
 {
-    match Record::read_in(alloc, line.text, room) {
+    match Record::read_in(alloc, line.text, buffers) {
         Ok(record) => Ok(record),
         Err(RecordFault::Memory) => Err(Stop::Memory),
         Err(fault) => Err(Stop::Refused(LineFault {
@@ -43,7 +43,7 @@ fn read_line(alloc: Global, line: NumberedLine, room: &mut Room) -> Result<Recor
 fn take_line<L: Ledger>(
     alloc: Global,
     line: NumberedLine,
-    room: &mut Room,
+    buffers: &mut Buffers,
     repos: &[(RepoKey, Arc<Graph>)],
     subject: &Subject,
     found: &mut HitIds,
@@ -52,7 +52,7 @@ fn take_line<L: Ledger>(
     ensures ok { OnOk result (TakesLine (map (λ g. (g.0, arc_value g.1)) repos.now) subject.now (line_pair line.entry) found.old found.new) }
     ensures err { IfErr result (λ d. Fails d (read_line (line_pair line.entry))) }
 {
-    let advisory = read_line(alloc, line, room)?;
+    let advisory = read_line(alloc, line, buffers)?;
     found.import(alloc, advisory, repos, subject, steps)?;
     Ok(())
 }
@@ -86,13 +86,13 @@ fn found_in<L: Ledger>(
 {
     let cuts = asks_commit(subject);
     let mut lines = Lines::new(input);
-    let mut room = Room::new(alloc);
+    let mut buffers = Buffers::new(alloc);
     let mut found = HitIds::new(alloc);
     while let Some(line) = lines.next() {
         if ends_advisories(cuts, line.text) {
             return Ok(found);
         }
-        take_line(alloc, line, &mut room, repos, subject, &mut found, steps)?;
+        take_line(alloc, line, &mut buffers, repos, subject, &mut found, steps)?;
     }
     Ok(found)
 }

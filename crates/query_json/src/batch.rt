@@ -6,7 +6,7 @@ ghost use Rattle.query_json.specs.Batches.{batch, batch_of, list_of_queries, num
 use crate::fault::{BatchFault, QueryFault};
 use crate::members::object_or;
 use crate::query::{Query, document_of, query_of};
-use json_view::{Elements, Node, Room};
+use json_view::{Buffers, Elements, Node};
 use osv_prim::{List, Stop};
 use std::alloc::Global;
 
@@ -74,10 +74,14 @@ fn batch_of(alloc: Global, node: Node) -> Result<List<Query>, Stop<BatchFault>>
 }
 
 #[tactic(auto, unfolding(crate::specs::Batches::batch))]
-fn batch_from(alloc: Global, bytes: &[u8], room: &mut Room) -> Result<List<Query>, Stop<BatchFault>>
+fn batch_from(
+    alloc: Global,
+    bytes: &[u8],
+    buffers: &mut Buffers,
+) -> Result<List<Query>, Stop<BatchFault>>
     ensures { Gives (λ l. l) result (batch bytes.now) }
 {
-    match document_of(alloc, bytes, room) {
+    match document_of(alloc, bytes, buffers) {
         Ok(document) => batch_of(alloc, document.root()),
         Err(Stop::Memory) => Err(Stop::Memory),
         Err(Stop::Refused(fault)) => Err(Stop::Refused(whole(fault))),
@@ -90,15 +94,19 @@ pub fn read_batch(alloc: Global, bytes: &[u8]) -> Result<Vec<Query>, BatchFault>
     ensures value { IfOk result (λ v. batch bytes.now ≡ Ok v.items) }
     ensures refused { IfErr result (λ e. e.fault ≢ QueryFault.Memory → batch bytes.now ≡ Err e) }
 {
-    read_batch_in(alloc, bytes, &mut Room::new(alloc))
+    read_batch_in(alloc, bytes, &mut Buffers::new(alloc))
 }
 
-/// The same, in room that is kept from one body to the next, which is faster for many.
-pub fn read_batch_in(alloc: Global, bytes: &[u8], room: &mut Room) -> Result<Vec<Query>, BatchFault>
+/// The same, in buffers that are kept from one body to the next, which is faster for many.
+pub fn read_batch_in(
+    alloc: Global,
+    bytes: &[u8],
+    buffers: &mut Buffers,
+) -> Result<Vec<Query>, BatchFault>
     ensures value { IfOk result (λ v. batch bytes.now ≡ Ok v.items) }
     ensures refused { IfErr result (λ e. e.fault ≢ QueryFault.Memory → batch bytes.now ≡ Err e) }
 {
-    match batch_from(alloc, bytes, room) {
+    match batch_from(alloc, bytes, buffers) {
         Ok(queries) => Ok(queries.into_vec()),
         Err(Stop::Memory) => Err(whole(QueryFault::Memory)),
         Err(Stop::Refused(fault)) => Err(fault),

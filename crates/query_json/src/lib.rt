@@ -15,5 +15,5 @@ mod query;
 
 pub use batch::{read_batch, read_batch_in};
 pub use fault::{BatchFault, Member, QueryFault};
-pub use json_view::Room;
+pub use json_view::Buffers;
 pub use query::{Query, read_query, read_query_in};

@@ -10,7 +10,7 @@ ghost use Rattle.query_json.specs.Queries.{meaning_of, query, query_of, subject_
 use crate::asked::{Asked, package_of, purl_of, url_of};
 use crate::fault::QueryFault;
 use crate::members::{Members, members_of};
-use json_view::{Document, JsonFault, Node, Room};
+use json_view::{Buffers, Document, JsonFault, Node};
 use osv_prim::{Oid, Stop, Subject};
 use page_token::{Token, TokenFault};
 use std::alloc::Global;
@@ -94,11 +94,11 @@ pub(crate) fn query_of(alloc: Global, node: Node) -> Result<Query, Stop<QueryFau
 pub(crate) fn document_of<'a>(
     alloc: Global,
     bytes: &'a [u8],
-    room: &'a mut Room,
+    buffers: &'a mut Buffers,
 ) -> Result<Document<'a>, Stop<QueryFault>>
     ensures { Gives document_value result (or_refuse QueryFault.NotJson (json bytes.now)) }
 {
-    match Document::read(alloc, bytes, room) {
+    match Document::read(alloc, bytes, buffers) {
         Ok(document) => Ok(document),
         Err(JsonFault::NotJson) => Err(Stop::Refused(QueryFault::NotJson)),
         Err(JsonFault::Memory) => Err(Stop::Memory),
@@ -106,10 +106,10 @@ pub(crate) fn document_of<'a>(
 }
 
 #[tactic(auto, unfolding(crate::specs::Queries::query))]
-fn query_from(alloc: Global, bytes: &[u8], room: &mut Room) -> Result<Query, Stop<QueryFault>>
+fn query_from(alloc: Global, bytes: &[u8], buffers: &mut Buffers) -> Result<Query, Stop<QueryFault>>
     ensures { Gives (λ q. q) result (query bytes.now) }
 {
-    let document = document_of(alloc, bytes, room)?;
+    let document = document_of(alloc, bytes, buffers)?;
     query_of(alloc, document.root())
 }
 
@@ -119,15 +119,19 @@ pub fn read_query(alloc: Global, bytes: &[u8]) -> Result<Query, QueryFault>
     ensures value { IfOk result (λ q. query bytes.now ≡ Ok q) }
     ensures refused { IfErr result (λ e. e ≢ QueryFault.Memory → query bytes.now ≡ Err e) }
 {
-    read_query_in(alloc, bytes, &mut Room::new(alloc))
+    read_query_in(alloc, bytes, &mut Buffers::new(alloc))
 }
 
-/// The same, in room that is kept from one body to the next, which is faster for many.
-pub fn read_query_in(alloc: Global, bytes: &[u8], room: &mut Room) -> Result<Query, QueryFault>
+/// The same, in buffers that are kept from one body to the next, which is faster for many.
+pub fn read_query_in(
+    alloc: Global,
+    bytes: &[u8],
+    buffers: &mut Buffers,
+) -> Result<Query, QueryFault>
     ensures value { IfOk result (λ q. query bytes.now ≡ Ok q) }
     ensures refused { IfErr result (λ e. e ≢ QueryFault.Memory → query bytes.now ≡ Err e) }
 {
-    match query_from(alloc, bytes, room) {
+    match query_from(alloc, bytes, buffers) {
         Ok(query) => Ok(query),
         Err(Stop::Memory) => Err(QueryFault::Memory),
         Err(Stop::Refused(fault)) => Err(fault),

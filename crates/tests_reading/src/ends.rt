@@ -1,4 +1,6 @@
-use edge_io::{CalmSink, CalmSource, Failed, ReadEnd, Sink, Source, WriteEnd, write_whole};
+use edge_io::{
+    CalmSink, CalmSource, Failed, MemSink, ReadEnd, Sink, Source, WriteEnd, write_whole,
+};
 use std::alloc::{AllocError, Global};
 use std::io::Cursor;
 
@@ -23,5 +25,7 @@ pub fn moved(alloc: Global) -> Result<String, AllocError> {
     let mut sink = WriteEnd::new(Cursor::new(room.as_mut_slice()));
     let whole = write_whole(&mut sink, b"abcd").is_ok();
     let full = write_whole(&mut sink, b"e").is_err();
-    format!(in alloc; "{first} {last} {front} {back} {taken} {whole} {full}")
+    let mut held = MemSink::with_room(alloc, 4, Vec::new(alloc), 8)?;
+    let kept = count(held.write(b"abcd"));
+    format!(in alloc; "{first} {last} {front} {back} {taken} {whole} {full} {kept}")
 }

@@ -25,6 +25,9 @@ fn answer<L: Ledger>(
         "read" => values::record(rt.alloc(), rest),
         "hits" => values::hits_of(rt.alloc(), rest, steps),
         "small" => small::made(rt.alloc()),
+        "packed" => small::in_one_block(rt.alloc()),
+        "copies" => small::copied(rt.alloc()),
+        "numbers" => small::numbers(rt.alloc()),
         "ends" => ends::moved(rt.alloc()),
         _ => String::from_str(rt.alloc(), line),
     }

@@ -51,8 +51,8 @@ fn parts(alloc: Global, record: &Record) -> Result<String, AllocError> {
         if let Some(package) = &entry.package {
             text.push_str(package.name.as_str())?;
         }
-        let mut versions = entry.versions.cursor();
-        while let Some(version) = versions.next() {
+        for index in 0..entry.versions.len() {
+            let version = entry.versions.get(index).unwrap_or(b"?".as_slice());
             text.push('/')?;
             text.push_str(std::str::from_utf8(version).unwrap_or("?"))?;
         }

@@ -1,4 +1,4 @@
-use Rattle.std.proofs.Common.{◌≡◌, List, sym, subst}
+use Rattle.std.proofs.Common.{◌≡◌, ◌∷◌, ◌++◌, [], ℕ, List, sym, ap, subst, ◌∙◌}
 use Rattle.serde_json.specs.Data.{Data}
 use Rattle.osv_prim.specs.Results.{each, onto}
 use Rattle.osv_prim.proofs.Each.{reads_on}
@@ -10,5 +10,6 @@ pub loop-node-preserved : goal.loop-node-preserved
 loop-node-preserved c =
     let total = each version_of (element_values c.args.elements) in
     let here = subst (λ (ds : List Data). onto c.loop-node.versions (each version_of ds) ≡ total) c.in-Some.ensures.some c.loop-node.invariant in
-    subst (λ vs. onto vs (each version_of (element_values c.next.new.self)) ≡ total) (sym c.in_ok-versions-2.ensures)
+    let longer = c.in_ok-push.ensures.ok ∙ ap (λ (text : List ℕ). c.loop-node.versions ++ text ∷ []) c.as_bytes.ensures.value in
+    subst (λ (vs : List (List ℕ)). onto vs (each version_of (element_values c.next.new.self)) ≡ total) (sym longer)
     (reads_on version_of c.loop-node.versions (node_value c.in-Some.node) (element_values c.next.new.self) c.in_ok-version_of.field-0.now total c.in_ok-version_of.ensures here)
