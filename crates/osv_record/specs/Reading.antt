@@ -1,7 +1,7 @@
 -- The advisory that bytes are, or the first refusal (OSV schema 1.6; the order of the tests is our own). The tests stand
 -- in the order in which they are made.
-use Rattle.std.specs.Prelude.{◌≡◌, ℕ, Bool, true, false, List, [], ◌∷◌, length, Option, Some, None, is_some, option_and_then, Result, Ok, Err, nat_lt, if◌then◌else◌, ◌&&◌, not, codes, ℤ}
-use Rattle.std.specs.List.{list_any, list_all}
+use Rattle.std.specs.Prelude.{ℕ, Bool, true, false, List, [], length, Option, Some, None, is_some, option_and_then, Result, Ok, Err, nat_lt, if◌then◌else◌, codes, ℤ}
+use Rattle.std.specs.List.{list_any}
 use Rattle.std.specs.Str.{bytes_eq}
 use Rattle.serde_json.specs.Data.{Data}
 use Rattle.serde_json.specs.Find.{as_str, as_object}

@@ -28,7 +28,7 @@ tenths_are (suc k) (d ∷ ds) le =
     let behind : suc (suc k) - length (d ∷ ds) ≡ suc k - length ds = omega arith in
     let unit : 10 ^ suc k ≡ 10 ^ length ds * 10 ^ (suc k - length ds) = ap (λ (n : ℕ). 10 ^ n) whole ∙ pow-add 10 (length ds) (suc k - length ds) in
     let rest : tenths (10 ^ suc k / 10) ds ≡ number ds * 10 ^ (suc k - length ds) =
-        ap (λ (n : ℕ). tenths (n / 10) ds) (pow-succ' 10 k) ∙ ap (λ (n : ℕ). tenths n ds) (tenth_of (10 ^ k)) ∙ tenths_are k ds fits in
+    ap (λ (n : ℕ). tenths (n / 10) ds) (pow-succ' 10 k) ∙ ap (λ (n : ℕ). tenths n ds) (tenth_of (10 ^ k)) ∙ tenths_are k ds fits in
     ap (λ (n : ℕ). (d - 48) * 10 ^ suc k + n) rest
     ∙ ap (λ (n : ℕ). (d - 48) * n + number ds * 10 ^ (suc k - length ds)) unit
     ∙ spread (d - 48) (10 ^ length ds) (10 ^ (suc k - length ds)) (number ds)
