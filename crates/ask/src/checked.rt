@@ -9,7 +9,7 @@ ghost use Rattle.settings.specs.declared.TheConstants.{MAX_INPUT_BYTES};
 use crate::output::Output;
 use line_input::{Lines, NumberedLine};
 use osv_prim::{Bytes, Memory};
-use osv_record::{Record, RecordFault, Room};
+use osv_record::{Buffers, Record, RecordFault};
 use record_check::{Notice, notices};
 use std::alloc::{AllocError, Global};
 
@@ -28,13 +28,13 @@ pub fn checked(alloc: Global, input: &[u8]) -> Result<Output, Memory>
     ensures status { IfOk result (λ o. (o.status ≡ 0) ⊎ (o.status ≡ 5)) }
 {
     let mut lines = Lines::new(input);
-    let mut room = Room::new(alloc);
+    let mut buffers = Buffers::new(alloc);
     let mut verdicts = Verdicts {
         refused: false,
         text: Vec::new(alloc),
     };
     while let Some(line) = lines.next() {
-        add_verdict(alloc, &mut verdicts, line, &mut room)?;
+        add_verdict(alloc, &mut verdicts, line, &mut buffers)?;
     }
     Ok(Output {
         status: if verdicts.refused { 5 } else { 0 },
@@ -47,11 +47,11 @@ fn add_verdict(
     alloc: Global,
     verdicts: &mut Verdicts,
     line: NumberedLine<'_>,
-    room: &mut Room,
+    buffers: &mut Buffers,
 ) -> Result<(), Memory>
     ensures { OnOk result (AddsVerdict (line_pair line.entry) verdicts.old verdicts.new) }
 {
-    match Record::read_in(alloc, line.text, room) {
+    match Record::read_in(alloc, line.text, buffers) {
         Ok(record) => add_accepted(alloc, &mut verdicts.text, line.number, &record),
         Err(RecordFault::Memory) => Err(Memory),
         Err(fault) => {

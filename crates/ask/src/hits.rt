@@ -14,7 +14,7 @@ use commit_graph::Graph;
 use evaluate::HitIds;
 use line_input::{Lines, NumberedLine};
 use osv_prim::{Bytes, Id, Ledger, Memory, RepoKey, Steps, Stop, Subject};
-use osv_record::{Record, Room};
+use osv_record::{Buffers, Record};
 use std::alloc::{AllocError, Global};
 use std::sync::Arc;
 
@@ -30,10 +30,10 @@ pub fn hits_of_lines<L: Ledger>(
     ensures { Gives (λ h. h) result (ids_hit [] subject.now (each read_line (numbered 1 input.now))) }
 {
     let mut lines = Lines::new(input);
-    let mut room = Room::new(alloc);
+    let mut buffers = Buffers::new(alloc);
     let mut found = HitIds::new(alloc);
     while let Some(line) = lines.next() {
-        take_line(alloc, line, &mut room, subject, &mut found, steps)?;
+        take_line(alloc, line, &mut buffers, subject, &mut found, steps)?;
     }
     Ok(found)
 }
@@ -41,7 +41,7 @@ pub fn hits_of_lines<L: Ledger>(
 fn take_line<L: Ledger>(
     alloc: Global,
     line: NumberedLine<'_>,
-    room: &mut Room,
+    buffers: &mut Buffers,
     subject: &Subject,
     found: &mut HitIds,
     steps: &mut Steps<L>,
@@ -49,7 +49,7 @@ fn take_line<L: Ledger>(
     ensures ok { OnOk result (TakesLine subject.now (line_pair line.entry) found.old found.new) }
     ensures err { IfErr result (λ d. Fails d (read_line (line_pair line.entry))) }
 {
-    let advisory = read_line(alloc, line, room)?;
+    let advisory = read_line(alloc, line, buffers)?;
     found.import(alloc, advisory, &[], subject, steps)?;
     Ok(())
 }

@@ -6,7 +6,7 @@ ghost use Rattle.ask.specs.Line.{read_line, refused_line};
 
 use line_input::NumberedLine;
 use osv_prim::Stop;
-use osv_record::{Record, RecordFault, Room};
+use osv_record::{Buffers, Record, RecordFault};
 use std::alloc::{AllocError, Global};
 
 /// A line that is refused. Lines are numbered from 1, with the empty ones counted.
@@ -20,11 +20,11 @@ pub struct LineFault {
 pub fn read_line(
     alloc: Global,
     line: NumberedLine<'_>,
-    room: &mut Room,
+    buffers: &mut Buffers,
 ) -> Result<Record, Stop<LineFault>>
     ensures { Gives (λ r. r) result (read_line (line_pair line.entry)) }
 {
-    match Record::read_in(alloc, line.text, room) {
+    match Record::read_in(alloc, line.text, buffers) {
         Ok(record) => Ok(record),
         Err(RecordFault::Memory) => Err(Stop::Memory),
         Err(fault) => Err(Stop::Refused(LineFault {

@@ -8,7 +8,7 @@ ghost use Rattle.ask.specs.Parts.{ReadsParts, divided, text_in, url_of};
 use crate::line::{LineFault, read_line};
 use line_input::Lines;
 use osv_prim::Stop;
-use osv_record::{Record, Room};
+use osv_record::{Buffers, Record};
 use std::alloc::Global;
 
 /// The advisories of an input, and the repository that it names behind them.
@@ -33,7 +33,7 @@ pub fn read_parts(alloc: Global, input: &[u8]) -> Result<ReadParts<'_>, Stop<Lin
     ensures within { IfOk result (λ p. IfSome p.repo (λ r. length r.stream.now ≤ length input.now)) }
 {
     let mut lines = Lines::new(input);
-    let mut room = Room::new(alloc);
+    let mut buffers = Buffers::new(alloc);
     let mut advisories = Vec::new(alloc);
     while let Some(line) = lines.next() {
         if let Some(url) = url_of(line.text) {
@@ -43,7 +43,7 @@ pub fn read_parts(alloc: Global, input: &[u8]) -> Result<ReadParts<'_>, Stop<Lin
                 repo: Some(RepoPart { url, stream }),
             });
         }
-        advisories.push(read_line(alloc, line, &mut room)?)?;
+        advisories.push(read_line(alloc, line, &mut buffers)?)?;
     }
     Ok(ReadParts {
         advisories,
