@@ -1,11 +1,1 @@
-pub mod Cut
 pub mod Ending
-pub mod Reading
-pub mod Unlines
-pub mod Heard
-pub mod Numerals
-pub mod FoundRows
-pub mod Lexed
-pub mod Walked
-pub mod Matching
-pub mod Finding

@@ -1,11 +1,1 @@
-pub mod Input
-pub mod Lines
-pub mod Cursor
-pub mod Words
-pub mod Repo
-pub mod Commits
-pub mod Asked
-pub mod Checked
 pub mod Run
-pub mod Said
-pub mod Reader

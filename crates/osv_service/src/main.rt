@@ -1,24 +1,13 @@
-//! Answers which security advisories touch a version of a package (OSV schema 1.6).
+//! Tells which security advisories touch a version of a package or a commit (OSV schema 1.6).
 #![tactic(auto)]
 
-mod answer;
-mod ask;
-mod check;
-mod command;
-mod commits;
-mod input;
-mod lines;
-mod matched;
-mod number;
-mod plain;
 mod program;
-mod repo;
-mod said;
 #[cfg(test)]
 mod tests;
-mod words;
 
-ghost use Rattle.std.specs.Prelude.{◌≡◌, ◌≤◌};
+ghost use Rattle.std.specs.Prelude.{◌≡◌, ◌≤◌, None, Some, map, string_bytes};
+ghost use Rattle.command_line.specs.Commands.{command};
+ghost use Rattle.osv_service.specs.Run.{Declines, Does, Untouched};
 
 use edge_io::{ReadEnd, Sink, Source, WriteEnd};
 use osv_prim::{Ledger, Steps, Unkept};
@@ -36,7 +25,7 @@ fn words_of(rt: &HostRuntime) -> io::Result<Vec<String>> {
     Ok(words)
 }
 
-// A run whose steps are counted in a new ledger.
+// A run whose steps are counted in a new ledger. It promises what `run` does.
 fn with_steps<S: Source, K: Sink, L: Ledger>(
     rt: &HostRuntime,
     words: &[String],
@@ -47,6 +36,13 @@ fn with_steps<S: Source, K: Sink, L: Ledger>(
     requires name { blank.name ≡ L.name }
     requires parts { blank.parts ≡ L.parts }
     requires two { 2 ≤ blank.parts }
+    ensures declines { command (map (λ w. string_bytes w) words.now) ≡ None
+        → Declines result (K.held sink.old) (K.held sink.new) (K.faults sink.old) (K.faults sink.new) }
+    ensures untouched { command (map (λ w. string_bytes w) words.now) ≡ None
+        → Untouched (S.left source.old) (S.left source.new) (S.faults source.old) (S.faults source.new) }
+    ensures answers { (c : _) → command (map (λ w. string_bytes w) words.now) ≡ Some c
+        → Does c result (S.left source.old) (S.left source.new) (K.held sink.old) (K.held sink.new)
+        (S.faults source.old) (S.faults source.new) (K.faults sink.old) (K.faults sink.new) }
 {
     let mut steps = Steps::<L>::start(rt, blank);
     run(rt.alloc(), words, source, sink, &mut steps)

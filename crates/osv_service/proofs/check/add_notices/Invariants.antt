@@ -1,7 +1,0 @@
-use Rattle.std.proofs.Common.{◌≡◌, ◌++◌, take}
-use Rattle.std.specs.List.{flat_map}
-use Rattle.osv_service.specs.Checked.{notice_line}
-use Rattle.osv_service.proofs.check.add_notices.Given as goal
-
-abbrev pub invariant-loop-notice : goal.invariant-loop-notice
-invariant-loop-notice l = l.text.items ≡ l.initial.text.items ++ flat_map (notice_line l.number) (take l.notice-index l.noted)

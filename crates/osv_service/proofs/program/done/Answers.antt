@@ -1,0 +1,15 @@
+use Rattle.ask.specs.Asked.{asked}
+use Rattle.ask.specs.Checked.{checked}
+use Rattle.ask.specs.Outputs.{within}
+use Rattle.osv_service.proofs.Ending.{answers_by, does_ask, does_check}
+use Rattle.osv_service.proofs.program.done.Goals as goal
+
+pub returns-in-Ask : goal.returns-in-Ask
+returns-in-Ask g c =
+    does_ask c.args.command.now c.in-Ask.subject c.in-Ask.input c.end.result _ _ _ _ _ _ _ _ c.in-Ask.is
+    (answers_by (within c.in-Ask.input (asked c.in-Ask.subject)) c.ask-output.result c.end.result _ _ _ _ _ _ _ _ c.ask-output.ensures.answer c.ask-output.ensures.failed c.end.ensures)
+
+pub returns-in-Check : goal.returns-in-Check
+returns-in-Check g c =
+    does_check c.args.command.now c.in-Check.input c.end-in-Check.result _ _ _ _ _ _ _ _ c.in-Check.is
+    (answers_by (within c.in-Check.input checked) c.check-output.result c.end-in-Check.result _ _ _ _ _ _ _ _ c.check-output.ensures.answer c.check-output.ensures.failed c.end-in-Check.ensures)
