@@ -13,3 +13,5 @@ pub mod ChunkMoves
 pub mod Settling
 pub mod One
 pub mod Wholes
+pub mod Replies
+pub mod ReadsBack

@@ -38,7 +38,7 @@ stays None = tt
 stays (Some xs) = sym (append-nil xs)
 
 -- nothing more was written
-adds-nothing : (out out_now : Option (List ℕ)) → out_now ≡ out → Appends out out_now []
+pub adds-nothing : (out out_now : Option (List ℕ)) → out_now ≡ out → Appends out out_now []
 adds-nothing out out_now e = rw e (stays out)
 
 -- ---- the head alone decides
@@ -87,9 +87,9 @@ body-truncated room (Some text) (Some mid) left out out_now q r held held_now h 
 pub body-fault : (room : Room) (before mid left out out_now : Option (List ℕ)) (q : Request) (r : Rest) (held held_now : List ℕ)
     → HeadTells room before out (got_head.Head q r) held mid out_now → RequestTells room before out got.ReadFault held_now left out_now
 body-fault room None mid left out out_now q r held held_now h = tt
-body-fault room (Some text) mid left out out_now q r held held_now h = inr (q, h.0, h.1, h.2, h.4, h.6)
+body-fault room (Some text) mid left out out_now q r held held_now h = inr (h.1, (q, h.0, h.2, h.4), h.6)
 
 pub body-no_memory : (room : Room) (before mid left out out_now : Option (List ℕ)) (q : Request) (r : Rest) (held held_now : List ℕ)
     → HeadTells room before out (got_head.Head q r) held mid out_now → RequestTells room before out got.Memory held_now left out_now
 body-no_memory room None mid left out out_now q r held held_now h = tt
-body-no_memory room (Some text) mid left out out_now q r held held_now h = inr (q, h.0, h.1, h.2, h.4, h.6)
+body-no_memory room (Some text) mid left out out_now q r held held_now h = inr (h.1, (q, h.0, h.2, h.4), h.6)

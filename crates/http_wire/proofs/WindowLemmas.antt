@@ -47,3 +47,12 @@ put-behind xs old room ys k len n most e l le =
     let rest : len + n - length old ≡ n = omega arith in
     ap (λ (f : List ℕ). take (len + n) (f ++ after)) front ∙ take-longer (len + n) old after (omega arith)
     ∙ ap (λ j. old ++ take j after) rest ∙ ap (λ (f : List ℕ). old ++ f) (take-append-le n ys (post_of len k xs) le)
+
+-- a text that is written behind the first bytes
+pub put-at : (xs ys : List ℕ) (len k : ℕ) → len ≤ length xs → take (len + length ys) (put_mid len k xs ys) ≡ take len xs ++ ys
+put-at xs ys len k le =
+    let front = length-take-le len xs le in
+    let after = ys ++ post_of len k xs in
+    let rest : len + length ys - length (take len xs) ≡ length ys = omega (arith, front) in
+    take-longer (len + length ys) (take len xs) after (omega (arith, front)) ∙ ap (λ j. take len xs ++ take j after) rest
+    ∙ ap (λ (l : List ℕ). take len xs ++ l) (take_at ys (post_of len k xs) (length ys) refl)

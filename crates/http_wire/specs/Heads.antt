@@ -2,18 +2,17 @@
 use Rattle.std.specs.Prelude.{◌≡◌, ◌<◌, ℕ, Bool, true, List, length, take, Option, Some, None}
 use Rattle.std.specs.Io.KnownBytes.{Appends}
 use Rattle.http_wire.specs.declared.fault.Framing.{Framing}
-use Rattle.http_wire.specs.declared.request.Request.{Request}
 use Rattle.http_wire.specs.declared.room.Room.{Room}
 use Rattle.http_wire.specs.declared.head.GotHead.{GotHead}
 use Rattle.http_wire.specs.declared.head.GotHead.TheVariants as got
 use Rattle.http_wire.specs.Ends.{head_len, front}
-use Rattle.http_wire.specs.Requests.{Head, RefusedHead, EndedBefore, TruncatedHead, Opens, body, interim}
+use Rattle.http_wire.specs.Requests.{Head, RefusedHead, EndedBefore, TruncatedHead, Opens, OpensWith, body, interim}
 use Rattle.http_wire.specs.Rests.{left_of}
 
 -- the sink took only so many bytes of the interim reply
 abbrev pub CutsInterim : Room → List ℕ → Option (List ℕ) → ℕ → Option (List ℕ) → Type 0
 CutsInterim room text out n out_now =
-    (r : Request) × (f : Framing) × (rest : List ℕ) × Opens room text (Head r f true rest) × (n < length (interim true)) × Appends out out_now (take n (interim true))
+    OpensWith room text true × (n < length (interim true)) × Appends out out_now (take n (interim true))
 
 -- What the answer tells of a text, what is held and left of it, and what was written.
 abbrev pub TellsHead : Room → List ℕ → Option (List ℕ) → GotHead → List ℕ → Option (List ℕ) → Option (List ℕ) → Type 0

@@ -17,3 +17,5 @@ pub mod Rests
 pub mod Fits
 pub mod Heads
 pub mod Wholes
+pub mod Replies
+pub mod ReadsBack

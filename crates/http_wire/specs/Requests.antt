@@ -54,6 +54,10 @@ OpensAt room text (Some n) o = (head : Option RequestHead) × IsHead (take n (wi
 abbrev pub Opens : Room → List ℕ → Opening → Type 0
 Opens room text o = OpensAt room text (head_len (front text)) o
 
+-- the text opens with a head, whose client waits for `100 Continue` or doesn't
+abbrev pub OpensWith : Room → List ℕ → Bool → Type 0
+OpensWith room text waits = (r : Request) × (f : Framing) × (rest : List ℕ) × Opens room text (Head r f waits rest)
+
 abbrev pub body : ℕ → Framing → List ℕ → Body
 body limit (framings.Sized n) rest = sized n rest
 body limit framings.Chunked rest = chunked limit rest

@@ -1,8 +1,6 @@
 -- What a reader of a whole request answers.
 use Rattle.std.specs.Prelude.{◌≡◌, ℕ, Bool, List, Option, Some, None, ◌⊎◌}
 use Rattle.std.specs.Io.KnownBytes.{Appends}
-use Rattle.http_wire.specs.declared.fault.Framing.{Framing}
-use Rattle.http_wire.specs.declared.request.Request.{Request}
 use Rattle.http_wire.specs.declared.room.Room.{Room}
 use Rattle.http_wire.specs.declared.rest.Rest.{Rest}
 use Rattle.http_wire.specs.declared.body.ReadBody.{ReadBody}
@@ -12,7 +10,7 @@ use Rattle.http_wire.specs.declared.read.Got.TheVariants as got
 use Rattle.http_wire.specs.Ends.{head_len, front}
 use Rattle.http_wire.specs.Chunks.{Whole, Bad, Short}
 use Rattle.http_wire.specs.Heads.{CutsInterim}
-use Rattle.http_wire.specs.Requests.{Head, Opens, Next, Asked, Refused, Ended, Truncated, interim}
+use Rattle.http_wire.specs.Requests.{OpensWith, Next, Asked, Refused, Ended, Truncated, interim}
 use Rattle.http_wire.specs.Rests.{left_of}
 
 -- what a reader of a whole body tells of the text behind a head
@@ -31,7 +29,7 @@ BodyTells r (Some text) b left = TellsBody r text b left
 -- reading stopped behind a head, whose client got the interim where it waits
 abbrev pub StopsBehindHead : Room → List ℕ → Option (List ℕ) → Option (List ℕ) → Type 0
 StopsBehindHead room text out out_now =
-    (r : Request) × (f : Framing) × (waits : Bool) × (rest : List ℕ) × Opens room text (Head r f waits rest) × Appends out out_now (interim waits)
+    (waits : Bool) × OpensWith room text waits × Appends out out_now (interim waits)
 
 -- What the answer tells of a text, what is held and left of it, and what was written.
 abbrev pub TellsRequest : Room → List ℕ → Option (List ℕ) → Got → List ℕ → Option (List ℕ) → Option (List ℕ) → Type 0

@@ -1,0 +1,61 @@
+ghost use Rattle.std.specs.Prelude.{◌≡◌, ◌<◌, ◌≤◌, ◌++◌, length, take, OnOk, IfErr};
+ghost use Rattle.std.specs.Io.KnownBytes.{Appends};
+ghost use Rattle.edge_io.specs.Causes.{HasCause};
+ghost use Rattle.http_wire.specs.Replies.{HasPhrase, spelled, no_memory};
+
+use crate::head_line::put_head;
+use crate::out::Out;
+use crate::reply::Reply;
+use edge_io::{Sink, SinkFault, write_whole};
+
+/// Writes a reply: from the stack in one write where head and body have at most 4,096 bytes together, else
+/// in two. It takes no memory.
+#[tactic(auto, unfolding(crate::specs::Replies::spelled))]
+pub fn write_reply<K: Sink>(sink: &mut K, reply: &Reply) -> Result<(), SinkFault>
+    requires { HasPhrase reply.now.status }
+    ensures ok { OnOk result (Appends (K.held sink.old) (K.held sink.new) (spelled reply.now)) }
+    ensures err { IfErr result (λ f. Appends (K.held sink.old) (K.held sink.new) (take f.out (spelled reply.now))) }
+    ensures within { IfErr result (λ f. f.out < length (spelled reply.now)) }
+    ensures cause { HasCause (K.faults sink.old) (K.faults sink.new) result }
+{
+    let mut out = Out::new();
+    put_head(&mut out, reply);
+    let body = reply.body.as_slice();
+    if out.has_room(body.len()) {
+        out.put(body);
+        return write_whole(sink, out.as_slice());
+    }
+    write_both(sink, out.as_slice(), body)
+}
+
+// Writes one text and then the other.
+fn write_both<K: Sink>(sink: &mut K, head: &[u8], body: &[u8]) -> Result<(), SinkFault>
+    requires { length head.now ≤ 4096 }
+    ensures ok { OnOk result (Appends (K.held sink.old) (K.held sink.new) (head.now ++ body.now)) }
+    ensures err { IfErr result (λ f. Appends (K.held sink.old) (K.held sink.new) (take f.out (head.now ++ body.now))) }
+    ensures within { IfErr result (λ f. f.out < length (head.now ++ body.now)) }
+    ensures cause { HasCause (K.faults sink.old) (K.faults sink.new) result }
+{
+    match write_whole(sink, head) {
+        Ok(()) => match write_whole(sink, body) {
+            Ok(()) => Ok(()),
+            Err(fault) => Err(SinkFault {
+                out: head.len() as u64 + fault.out,
+            }),
+        },
+        Err(fault) => Err(fault),
+    }
+}
+
+/// Writes the reply of a server that found no memory, and takes none for it.
+pub fn write_memory<K: Sink>(sink: &mut K) -> Result<(), SinkFault>
+    ensures ok { OnOk result (Appends (K.held sink.old) (K.held sink.new) (spelled no_memory)) }
+    ensures err { IfErr result (λ f. Appends (K.held sink.old) (K.held sink.new) (take f.out (spelled no_memory))) }
+    ensures within { IfErr result (λ f. f.out < length (spelled no_memory)) }
+    ensures cause { HasCause (K.faults sink.old) (K.faults sink.new) result }
+{
+    write_whole(
+        sink,
+        b"HTTP/1.1 503 Service Unavailable\r\ncontent-type: application/json\r\ncontent-length: 30\r\nconnection: close\r\n\r\n{\"code\":22,\"message\":\"memory\"}",
+    )
+}
