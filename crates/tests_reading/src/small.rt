@@ -55,7 +55,8 @@ fn keys(alloc: Global) -> Result<bool, Memory> {
     let read = RepoKey::from_key(alloc, key.as_str())?;
     let package = PackageKey::normal(alloc, "PyPI", "A_b")?;
     let asked = Subject::Package(package, Some(Text::copy_of(alloc, "1")?));
-    let same = match asked.copy(alloc)? {
+    let copy = asked.copy(alloc)?;
+    let same = match &copy {
         Subject::Package(package, Some(version)) => {
             package.name.as_str() == "a-b" && version.as_str() == "1"
         }
