@@ -1,0 +1,4 @@
+pub mod Parting
+pub mod Merging
+pub mod ById
+pub mod Prefixes
