@@ -1,0 +1,4 @@
+pub mod Finding
+pub mod Pages
+pub mod Joining
+pub mod Jobs

@@ -1,0 +1,4 @@
+pub mod Snapshots
+pub mod Pages
+pub mod Walks
+pub mod Jobs

@@ -1,0 +1,22 @@
+//! Immutable snapshots of imports, which answer queries, and the jobs that make them.
+//!
+//! ```
+//! let snapshot = assemble(alloc, &plan)?;
+//! let page = snapshot.answer(alloc, &subject, None, 100, steps)?;
+//! let advisory = snapshot.find(&id);
+//! ```
+#![tactic(auto)]
+
+mod assembly;
+mod hit;
+mod job;
+pub mod laws;
+mod page;
+mod snapshot;
+mod work;
+
+pub use assembly::assemble;
+pub use job::{Finished, Job};
+pub use page::Page;
+pub use snapshot::Snapshot;
+pub use work::do_job;
