@@ -1,0 +1,44 @@
+-- Counts that rise, call by call.
+use Rattle.std.proofs.Common.{ℕ, ◌+◌, ◌≤◌, List, [], ◌∷◌, sym, subst, arith}
+use Rattle.std.specs.List.{sum_by}
+use Rattle.std.proofs.lemmas.List.Sums.{sum_by-cons}
+use Rattle.book_model.specs.Desk.{Caller}
+use Rattle.session_model.specs.Counts.{Raises, Rises, busy_of, turns_of, looks_of}
+use Rattle.session_model.specs.Runs.{Done, Runs}
+
+raises-then : (n m x y z : ℕ) → Raises n x y → Raises m y z → Raises (n + m) x z
+raises-then n m x y z p q = omega (arith, p, q)
+
+raises-less : (n m x y : ℕ) → m ≤ n → Raises n x y → Raises m x y
+raises-less n m x y le p = omega (arith, le, p)
+
+pub rises-none : (c : Caller) → Rises 0 0 0 c c
+rises-none c = record { busy_rose = omega arith; turns_rose = omega arith; looks_rose = omega arith }
+
+pub rises-then : (a b : Caller) (busy turns looks : ℕ) (c : Caller) (more_busy more_turns more_looks : ℕ) → Rises busy turns looks a b → Rises more_busy more_turns more_looks b c
+    → Rises (busy + more_busy) (turns + more_turns) (looks + more_looks) a c
+rises-then a b busy turns looks c more_busy more_turns more_looks p q = record {
+  busy_rose = raises-then busy more_busy a.busy b.busy c.busy p.busy_rose q.busy_rose;
+  turns_rose = raises-then turns more_turns a.turns b.turns c.turns p.turns_rose q.turns_rose;
+  looks_rose = raises-then looks more_looks a.last.turned b.last.turned c.last.turned p.looks_rose q.looks_rose;
+}
+
+pub rises-less : (a b : Caller) (busy turns looks fewer_busy fewer_turns fewer_looks : ℕ) → fewer_busy ≤ busy → fewer_turns ≤ turns → fewer_looks ≤ looks
+    → Rises busy turns looks a b → Rises fewer_busy fewer_turns fewer_looks a b
+rises-less a b busy turns looks fewer_busy fewer_turns fewer_looks x y z p = record {
+  busy_rose = raises-less busy fewer_busy a.busy b.busy x p.busy_rose;
+  turns_rose = raises-less turns fewer_turns a.turns b.turns y p.turns_rose;
+  looks_rose = raises-less looks fewer_looks a.last.turned b.last.turned z p.looks_rose;
+}
+
+pub run-counts : (old new : Caller) (ds : List Done) → Runs old ds new
+    → Rises (sum_by (λ d. busy_of d.sign) ds) (sum_by (λ d. turns_of d.sign) ds) (sum_by (λ d. looks_of d.sign) ds) old new
+run-counts old new [] r = subst (λ (c : Caller). Rises 0 0 0 old c) (sym r) (rises-none old)
+run-counts old new (d ∷ ds) r =
+    let both = rises-then old r.0 (busy_of d.sign) (turns_of d.sign) (looks_of d.sign) new (sum_by (λ (d : Done). busy_of d.sign) ds) (sum_by (λ (d : Done). turns_of d.sign) ds) (sum_by (λ (d : Done). looks_of d.sign) ds)
+    r.1.counts (run-counts r.0 new ds r.2) in
+    record {
+      busy_rose = subst (λ (n : ℕ). Raises n old.busy new.busy) (sym (sum_by-cons (λ (d : Done). busy_of d.sign) d ds)) both.busy_rose;
+      turns_rose = subst (λ (n : ℕ). Raises n old.turns new.turns) (sym (sum_by-cons (λ (d : Done). turns_of d.sign) d ds)) both.turns_rose;
+      looks_rose = subst (λ (n : ℕ). Raises n old.last.turned new.last.turned) (sym (sum_by-cons (λ (d : Done). looks_of d.sign) d ds)) both.looks_rose;
+    }

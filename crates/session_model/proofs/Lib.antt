@@ -1,0 +1,4 @@
+pub mod Runs
+pub mod Owned
+pub mod Counting
+pub mod Sessions

@@ -1,0 +1,9 @@
+pub mod Routes
+pub mod Replies
+pub mod Looks
+pub mod Answers
+pub mod Counts
+pub mod Runs
+pub mod Owned
+pub mod Ends
+pub mod Sessions

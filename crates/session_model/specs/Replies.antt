@@ -1,0 +1,57 @@
+-- Replies, but for which one a request gets (our own; what a status means is RFC 9110, section 15, and RFC 6585, section 5).
+use Rattle.std.specs.Prelude.{ℕ, Bool, true, List, ◌++◌, Some, None, codes, decimal}
+use Rattle.http_wire.specs.declared.fault.WireFault.{WireFault}
+use Rattle.http_wire.specs.declared.fault.WireFault.TheVariants as faults
+use Rattle.http_wire.specs.declared.reply.Allow.{Allow}
+use Rattle.http_wire.specs.declared.reply.Reply.{Reply}
+use Rattle.http_wire.specs.Codes as wire
+use Rattle.reply_json.specs.declared.refusal.Refusal.{Refusal}
+use Rattle.reply_json.specs.declared.refusal.Refusal.TheVariants as refusals
+use Rattle.reply_json.specs.Refusals.{body_of, refusal_body, status_of}
+
+-- ---- behind requests that were read; the first argument says whether the connection closes behind the reply
+
+-- what was asked for was done
+abbrev pub done_reply : Bool → List ℕ → Reply
+done_reply closes body = record { body = body; snapshot = None; allow = None; status = 200; close = closes }
+
+-- what was asked for, of a snapshot
+abbrev pub snapshot_reply : Bool → ℕ → List ℕ → Reply
+snapshot_reply closes snapshot body = record { body = body; snapshot = Some snapshot; allow = None; status = 200; close = closes }
+
+-- why it is not done
+abbrev pub refusal_reply : Bool → Refusal → Reply
+refusal_reply closes refusal = record { body = refusal_body refusal; snapshot = None; allow = None; status = status_of refusal; close = closes }
+
+-- by which method the path is asked
+abbrev pub method_reply : Bool → Allow → Reply
+method_reply closes allow = record { body = refusal_body refusals.MethodNotAllowed; snapshot = None; allow = Some allow; status = 405; close = closes }
+
+-- ---- to requests that can't be read, behind which the connection closes
+
+-- why a request can't be read, where bodies have at most so many bytes
+abbrev pub wire_message : ℕ → WireFault → List ℕ
+wire_message limit faults.BadHead = codes "bad request head"
+wire_message limit faults.BadLength = codes "bad content-length"
+wire_message limit faults.BothLengths = codes "content-length with transfer-encoding"
+wire_message limit faults.BadChunk = codes "bad chunk"
+wire_message limit faults.BodyTooLarge = codes "body larger than " ++ decimal limit
+wire_message limit faults.ContentCoding = codes "content-encoding not supported"
+wire_message limit faults.HeadTooLong = codes "request head too long"
+wire_message limit faults.TransferCoding = codes "transfer-encoding not supported"
+
+abbrev pub wire_status : WireFault → ℕ
+wire_status faults.BadHead = 400
+wire_status faults.BadLength = 400
+wire_status faults.BothLengths = 400
+wire_status faults.BadChunk = 400
+wire_status faults.BodyTooLarge = 413
+wire_status faults.ContentCoding = 415
+wire_status faults.HeadTooLong = 431
+wire_status faults.TransferCoding = 501
+
+unfoldable pub wire_body : ℕ → WireFault → List ℕ
+wire_body limit fault = body_of (wire.code_of fault) (wire_message limit fault)
+
+unfoldable pub wire_reply : ℕ → WireFault → Reply
+wire_reply limit fault = record { body = wire_body limit fault; snapshot = None; allow = None; status = wire_status fault; close = true }
