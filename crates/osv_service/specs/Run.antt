@@ -10,6 +10,10 @@ use Rattle.ask.specs.Outputs.{within}
 use Rattle.ask.specs.declared.output.Output.{Output}
 use Rattle.command_line.specs.declared.command.Command.{Command}
 use Rattle.command_line.specs.declared.command.Command.TheVariants.{Ask, Check, Replay}
+use Rattle.settings.specs.declared.Settings.{Settings}
+use Rattle.http_session.specs.declared.end.End.{End}
+use Rattle.http_session.specs.declared.end.End.TheVariants as ends
+use Rattle.http_session.specs.Sessions.{SessionTells}
 
 abbrev pub usage : List ℕ
 usage = codes "usage: osv_service ask [--input N] ECOSYSTEM NAME [VERSION]\n       osv_service ask [--input N] --commit OID [ECOSYSTEM NAME]\n       osv_service check [--input N]\n       osv_service replay [SETTINGS]\n       osv_service drill SEED SIZE\n       osv_service serve [SETTINGS] [--lanes N] [--helpers N] ADDRESS\n"
@@ -41,14 +45,39 @@ pub record Answers (answer : List ℕ → Output) (status : ℕ) (left_old left_
   pub front : status ≡ 4 → IfSome left_old (λ input. WritesFront held_old held_new (answer input).bytes)
   pub no_memory : status ≡ 6 → Keeps held_old held_new
 
--- what each command does; `replay` is not built yet, and is declined
+-- the status behind a session
+abbrev pub status_behind : End → ℕ
+status_behind ends.Ended = 0
+status_behind ends.Asked = 0
+status_behind ends.Served = 5
+status_behind (ends.Refused e) = 5
+status_behind ends.Truncated = 5
+status_behind ends.ReadFault = 3
+status_behind (ends.WriteFault n) = 4
+status_behind ends.Memory = 6
+
+-- The input was answered as one session: the status is by its end, and a fault comes only where one rose.
+pub record Replays (settings : Settings) (status : ℕ) (left_old held_old held_new : Option (List ℕ)) (source_before source_now sink_before sink_now : ℕ) : Type 0 where
+  pub end : End
+  pub same : status ≡ status_behind end
+  pub session : SessionTells settings left_old held_old end held_new
+  pub source_fault : status ≡ 3 → Rose source_before source_now
+  pub sink_fault : status ≡ 4 → Rose sink_before sink_now
+
+-- want of memory before anything was read or written
+abbrev pub FailsFirst : ℕ → Option (List ℕ) → Option (List ℕ) → Option (List ℕ) → Option (List ℕ) → ℕ → ℕ → Type 0
+FailsFirst status left_old left_new held_old held_new source_before source_now =
+    (status ≡ 6) × Keeps held_old held_new × Untouched left_old left_new source_before source_now
+
+-- what each command does
 abbrev pub Does : Command → ℕ → Option (List ℕ) → Option (List ℕ) → Option (List ℕ) → Option (List ℕ) → ℕ → ℕ → ℕ → ℕ → Type 0
 Does (Ask subject limit) status left_old left_new held_old held_new source_before source_now sink_before sink_now =
     Answers (within limit (asked subject)) status left_old left_new held_old held_new source_before source_now sink_before sink_now
 Does (Check limit) status left_old left_new held_old held_new source_before source_now sink_before sink_now =
     Answers (within limit checked) status left_old left_new held_old held_new source_before source_now sink_before sink_now
 Does (Replay settings) status left_old left_new held_old held_new source_before source_now sink_before sink_now =
-    Declines status held_old held_new sink_before sink_now × Untouched left_old left_new source_before source_now
+    Replays settings status left_old held_old held_new source_before source_now sink_before sink_now
+    ⊎ FailsFirst status left_old left_new held_old held_new source_before source_now
 
 -- the output was written, or a front of it
 pub record Writes (o : Output) (status : ℕ) (held_old held_new : Option (List ℕ)) (sink_before sink_now : ℕ) : Type 0 where

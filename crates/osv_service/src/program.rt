@@ -1,14 +1,18 @@
-ghost use Rattle.std.specs.Prelude.{◌≡◌, ◌≢◌, ◌⊎◌, None, Some, map, IfOk, string_bytes};
+ghost use Rattle.std.specs.Prelude.{◌≡◌, ◌≢◌, ◌≤◌, ◌⊎◌, None, Some, map, IfOk, string_bytes};
 ghost use Rattle.std.specs.Io.KnownBytes.{Appends};
 ghost use Rattle.edge_io.specs.Causes.{Rose};
 ghost use Rattle.command_line.specs.Commands.{command, IsInRange};
-ghost use Rattle.osv_service.specs.Run.{Declines, Does, Ends, Untouched, WritesFront};
+ghost use Rattle.http_session.specs.Sessions.{IsWriteFault};
+ghost use Rattle.http_session.specs.declared.end.End.TheVariants.{ReadFault};
+ghost use Rattle.osv_service.specs.Run.{Declines, Does, Ends, Replays, Untouched, WritesFront, status_behind};
 
 use ask::Output;
 use command_line::{Command, read};
 use edge_io::{Sink, Source, write_whole};
+use http_session::{End, serve_session};
 use line_input::ReadStop;
 use osv_prim::{Ledger, Steps};
+use settings::Settings;
 use std::alloc::Global;
 
 pub(crate) const USAGE: &str =
@@ -16,8 +20,8 @@ pub(crate) const USAGE: &str =
 
 /// Does what the words say over a source and a sink, and answers the status: 0 where the whole input
 /// was read and answered, 2 where the words are no command, 3 where the source failed, 4 where the
-/// sink failed, 5 where the input is refused, and 6 for want of memory. `replay` is not built yet,
-/// and is declined as words outside the grammar are.
+/// sink failed, 5 where the input is refused, and 6 for want of memory. `replay` is refused where its
+/// session ends by a request that no other can follow, inside one, or as many were answered as may be.
 pub fn run<S: Source, K: Sink, L: Ledger>(
     alloc: Global,
     words: &[String],
@@ -60,7 +64,36 @@ fn done<S: Source, K: Sink, L: Ledger>(
             let output = ask::check(alloc, *input, source);
             end(sink, output)
         }
-        Command::Replay(_) => decline(sink),
+        Command::Replay(settings) => replay(alloc, settings, source, sink),
+    }
+}
+
+// Answers the requests of the source, as one session.
+fn replay<S: Source, K: Sink>(
+    alloc: Global,
+    settings: &Settings,
+    source: &mut S,
+    sink: &mut K,
+) -> u8
+    requires { 1 ≤ settings.now.requests }
+    ensures { Replays settings.now result (S.left source.old) (K.held sink.old) (K.held sink.new)
+        (S.faults source.old) (S.faults source.new) (K.faults sink.old) (K.faults sink.new) }
+{
+    let session = serve_session(alloc, source, sink, settings);
+    status_behind(session.end)
+}
+
+fn status_behind(end: End) -> u8
+    ensures status { result ≡ status_behind end }
+    ensures source_fault { result ≡ 3 → end ≡ ReadFault }
+    ensures sink_fault { result ≡ 4 → IsWriteFault end }
+{
+    match end {
+        End::Ended | End::Asked => 0,
+        End::Served | End::Refused(_) | End::Truncated => 5,
+        End::ReadFault => 3,
+        End::WriteFault { .. } => 4,
+        End::Memory => 6,
     }
 }
 

@@ -1,7 +1,7 @@
 use Rattle.ask.specs.Asked.{asked}
 use Rattle.ask.specs.Checked.{checked}
 use Rattle.ask.specs.Outputs.{within}
-use Rattle.osv_service.proofs.Ending.{answers_by, does_ask, does_check}
+use Rattle.osv_service.proofs.Ending.{answers_by, does_ask, does_check, does_replay}
 use Rattle.osv_service.proofs.program.done.Goals as goal
 
 pub returns-in-Ask : goal.returns-in-Ask
@@ -13,3 +13,8 @@ pub returns-in-Check : goal.returns-in-Check
 returns-in-Check g c =
     does_check c.args.command.now c.in-Check.input c.end-in-Check.result _ _ _ _ _ _ _ _ c.in-Check.is
     (answers_by (within c.in-Check.input checked) c.check-output.result c.end-in-Check.result _ _ _ _ _ _ _ _ c.check-output.ensures.answer c.check-output.ensures.failed c.end-in-Check.ensures)
+
+pub returns-in-Replay : goal.returns-in-Replay
+returns-in-Replay g c =
+    does_replay c.args.command.now c.in-Replay.settings c.replay.result (g.S.Source.left c.args.source.now) (g.S.Source.left c.replay.new.source) (g.K.Sink.held c.args.sink.now) (g.K.Sink.held c.replay.new.sink)
+    (g.S.Source.faults c.args.source.now) (g.S.Source.faults c.replay.new.source) (g.K.Sink.faults c.args.sink.now) (g.K.Sink.faults c.replay.new.sink) c.in-Replay.is c.replay.ensures
