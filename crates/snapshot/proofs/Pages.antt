@@ -82,3 +82,7 @@ pack found more = record { found = found; more = more }
 
 pub same_page : (f g : List Advisory) (m n : Bool) → f ≡ g → m ≡ n → pack f m ≡ pack g n
 same_page f g m n e k = ap (λ (xs : List Advisory). pack xs m) e ∙ ap (λ (b : Bool). pack g b) k
+
+pub fewer : (id : List ℕ) (xs below : List Advisory) (found : Option Advisory) (above : List Advisory) → IsSplit id xs below found above → length above ≤ length xs
+fewer id xs below found above s =
+    omega (arith, ap (λ (ys : List Advisory). length ys) s.whole, length-append below (option_to_list found ++ above), length-append (option_to_list found) above)

@@ -1,4 +1,4 @@
-ghost use Rattle.std.specs.Prelude.{◌≡◌, IfOk};
+ghost use Rattle.std.specs.Prelude.{◌≡◌, ◌+◌, IfOk};
 ghost use Rattle.evaluate.specs.Hits.{is_hit, affects_subject};
 ghost use Rattle.impact_job.specs.Tables.{repos_seen};
 
@@ -9,7 +9,7 @@ use osv_record::Record;
 use std::alloc::Global;
 use std::sync::Arc;
 
-/// Whether an advisory that isn't withdrawn affects what is asked.
+/// Whether an advisory that isn't withdrawn affects what is asked. It counts as one read of it.
 pub(crate) fn is_hit<L: Ledger>(
     alloc: Global,
     advisory: &Record,
@@ -18,8 +18,9 @@ pub(crate) fn is_hit<L: Ledger>(
     steps: &mut Steps<L>,
 ) -> Result<bool, Memory>
     ensures hit { IfOk result (λ b. b ≡ is_hit (repos_seen repos.now) subject.now advisory.now) }
-    ensures records { steps.new.record_count ≡ steps.old.record_count }
+    ensures records { steps.new.record_count ≡ steps.old.record_count + 1 }
 {
+    steps.record_tick();
     if advisory.withdrawn {
         return Ok(false);
     }

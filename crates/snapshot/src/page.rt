@@ -1,4 +1,4 @@
-ghost use Rattle.std.specs.Prelude.{◌≡◌, IfOk, filter, map};
+ghost use Rattle.std.specs.Prelude.{◌≡◌, ◌+◌, ◌≤◌, IfOk, filter, length, map};
 ghost use Rattle.std.specs.Arc.{arc_value};
 ghost use Rattle.evaluate.specs.Hits.{is_hit};
 ghost use Rattle.impact_job.specs.Tables.{repos_seen};
@@ -29,7 +29,7 @@ pub(crate) fn first_hits<L: Ledger>(
     steps: &mut Steps<L>,
 ) -> Result<Page, Memory>
     ensures page { IfOk result (λ page. page_seen page ≡ cut size (filter (is_hit (repos_seen repos.now) subject.now) (map (λ a. arc_value a) advisories.now))) }
-    ensures records { steps.new.record_count ≡ steps.old.record_count }
+    ensures records { steps.new.record_count ≤ steps.old.record_count + length advisories.now }
 {
     let mut found = Vec::new(alloc);
     for advisory in advisories {

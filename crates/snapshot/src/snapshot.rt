@@ -1,6 +1,7 @@
-ghost use Rattle.std.specs.Prelude.{◌≡◌, List, [], Bool, IfOk, map, filter, option_map};
+ghost use Rattle.std.specs.Prelude.{◌≡◌, ◌+◌, ◌≤◌, List, [], Bool, IfOk, length, map, filter, option_map};
 ghost use Rattle.std.specs.Arc.{arc_value};
 ghost use Rattle.history.specs.declared.past.Past.{Past};
+ghost use Rattle.history.specs.Prefixes.{records};
 ghost use Rattle.history.specs.Lookups.{record_of};
 ghost use Rattle.osv_record.specs.Advisories.{Advisory};
 ghost use Rattle.impact_job.specs.Tables as tables;
@@ -58,8 +59,8 @@ impl Snapshot {
     }
 
     /// A page of hits: the first `size` of those whose ids are above `after`, or of all, ascending by id,
-    /// and whether there are more. It looks no further than the first hit behind the page. Only memory
-    /// can fail.
+    /// and whether there are more. It reads each advisory once at most, and none behind the first hit that
+    /// the page doesn't have. Only memory can fail.
     pub fn answer<L: Ledger>(
         &self,
         alloc: Global,
@@ -69,7 +70,7 @@ impl Snapshot {
         steps: &mut Steps<L>,
     ) -> Result<Page, Memory>
         ensures page { (p : List Past) → StandsFor self.now p → IfOk result (λ found. page_seen found ≡ page p subject.now (option_map (λ id. id.now) after.entry) size) }
-        ensures records { steps.new.record_count ≡ steps.old.record_count }
+        ensures records { (p : List Past) → StandsFor self.now p → steps.new.record_count ≤ steps.old.record_count + length (records p) }
     {
         let records = self.tables.records.as_slice();
         let repos = self.tables.repos.as_slice();
@@ -86,7 +87,8 @@ impl Snapshot {
 
 // Those above an id, or all.
 fn all_above<'a>(records: &'a [Arc<Record>], after: Option<&Id>) -> &'a [Arc<Record>]
-    ensures { Ascend (map (λ a. arc_value a) records.now)
+    ensures count { Ascend (map (λ a. arc_value a) records.now) → length result.now ≤ length records.now }
+    ensures hits { Ascend (map (λ a. arc_value a) records.now)
         → (h : Advisory → Bool) → filter h (map (λ a. arc_value a) result.now) ≡ filter (is_above (option_map (λ id. id.now) after.entry)) (filter h (map (λ a. arc_value a) records.now)) }
 {
     match after {

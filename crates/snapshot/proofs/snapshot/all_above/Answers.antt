@@ -1,20 +1,21 @@
-use Rattle.std.proofs.Common.{◌≡◌, ℕ, List, Bor, map, sym, ap, subst, ◌∙◌}
+use Rattle.std.proofs.Common.{◌≡◌, ℕ, List, Bor, arith, map, sym, ap, subst, ◌∙◌}
 use Rattle.std.specs.Prelude.{Option, option_map, filter}
 use Rattle.std.specs.Arc.{arc_value}
+use Rattle.std.proofs.lemmas.List.{length-map}
 use Rattle.osv_record.specs.Advisories.{Advisory}
 use Rattle.impact_job.specs.Order.{IsSplit}
 use Rattle.snapshot.specs.Pages.{is_above}
-use Rattle.snapshot.proofs.Pages.{all_without_id, hits-above}
+use Rattle.snapshot.proofs.Pages.{all_without_id, hits-above, fewer}
 use Rattle.snapshot.proofs.snapshot.all_above.Goals as goal
 
-pub returns-in-None : goal.returns-in-None
-returns-in-None c = λ up h.
+pub returns-in-None-clause-hits : goal.returns-in-None-clause-hits
+returns-in-None-clause-hits c = λ up h.
     let xs : List Advisory = map (λ a. arc_value a) c.args.records.now in
     let after = ap (option_map (λ (id : Bor (List ℕ)). id.now)) c.in-None.is in
     sym (ap (λ (a : Option (List ℕ)). filter (is_above a) (filter h xs)) after ∙ all_without_id h xs)
 
-pub returns-in-Some : goal.returns-in-Some
-returns-in-Some c = λ up h.
+pub returns-in-Some-clause-hits : goal.returns-in-Some-clause-hits
+returns-in-Some-clause-hits c = λ up h.
     let xs : List Advisory = map (λ a. arc_value a) c.args.records.now in
     let below : List Advisory = map (λ a. arc_value a) c.split_at_id.result.below.now in
     let found : Option Advisory = option_map (λ a. arc_value a.now) c.split_at_id.result.found in
@@ -22,3 +23,11 @@ returns-in-Some c = λ up h.
     let id : c.as_bytes.result.now ≡ c.in-Some.id.now = c.as_bytes.ensures.value ∙ c.as_str.ensures.value in
     let after = ap (option_map (λ (id : Bor (List ℕ)). id.now)) c.in-Some.is in
     sym (ap (λ (a : Option (List ℕ)). filter (is_above a) (filter h xs)) after ∙ hits-above h c.in-Some.id.now xs below found above (subst (λ (i : List ℕ). IsSplit i xs below found above) id (c.split_at_id.ensures up)))
+
+pub returns-in-Some-clause-count : goal.returns-in-Some-clause-count
+returns-in-Some-clause-count c = λ up.
+    let xs : List Advisory = map (λ a. arc_value a) c.args.records.now in
+    let below : List Advisory = map (λ a. arc_value a) c.split_at_id.result.below.now in
+    let found : Option Advisory = option_map (λ a. arc_value a.now) c.split_at_id.result.found in
+    let above : List Advisory = map (λ a. arc_value a) c.split_at_id.result.above.now in
+    omega (arith, fewer c.as_bytes.result.now xs below found above (c.split_at_id.ensures up), length-map c.split_at_id.result.above.now (λ a. arc_value a), length-map c.args.records.now (λ a. arc_value a))
