@@ -1,9 +1,11 @@
 -- Counts that rise, call by call.
-use Rattle.std.proofs.Common.{ℕ, ◌+◌, ◌≤◌, List, [], ◌∷◌, sym, subst, arith}
+use Rattle.std.proofs.Common.{◌≡◌, ℕ, ◌+◌, ◌≤◌, List, [], ◌∷◌, sym, subst, arith, zero, suc, refl, ap, ◌∙◌, min}
 use Rattle.std.specs.List.{sum_by}
 use Rattle.std.proofs.lemmas.List.Sums.{sum_by-cons}
-use Rattle.book_model.specs.Desk.{Caller}
-use Rattle.session_model.specs.Counts.{Raises, Rises, busy_of, turns_of, looks_of}
+use Rattle.book_model.specs.Desk.{Caller, saturating_sum}
+use Rattle.session_model.specs.declared.sign.Sign.{Sign}
+use Rattle.session_model.specs.declared.sign.Sign.TheVariants as signs
+use Rattle.session_model.specs.Counts.{Raises, Rises, busy_of, turns_of, looks_of, out_of, OutsAre}
 use Rattle.session_model.specs.Runs.{Done, Runs}
 
 raises-then : (n m x y z : ℕ) → Raises n x y → Raises m y z → Raises (n + m) x z
@@ -42,3 +44,24 @@ run-counts old new (d ∷ ds) r =
       turns_rose = subst (λ (n : ℕ). Raises n old.turns new.turns) (sym (sum_by-cons (λ (d : Done). turns_of d.sign) d ds)) both.turns_rose;
       looks_rose = subst (λ (n : ℕ). Raises n old.last.turned new.last.turned) (sym (sum_by-cons (λ (d : Done). looks_of d.sign) d ds)) both.looks_rose;
     }
+
+-- ---- jobs that are told to be out
+
+outs_step : (sign : Sign) (old new : Caller) → old.outs ≤ 18446744073709551615 → OutsAre sign old new → new.outs ≡ min (old.outs + out_of sign) 18446744073709551615
+outs_step signs.Plain old new le e = omega (arith, le, e)
+outs_step signs.Looked old new le e = omega (arith, le, e)
+outs_step (signs.Moved seen) old new le e = omega (arith, le, e)
+outs_step (signs.Published snapshot upto) old new le e = omega (arith, le, e)
+outs_step (signs.Building zero took) old new le e = let k : new.outs ≡ old.outs = e.1 refl in omega (arith, le, k)
+outs_step (signs.Building (suc n) took) old new le e = e.0 (omega arith)
+
+more_outs : (x y z n m : ℕ) → y ≡ min (x + n) 18446744073709551615 → z ≡ min (y + m) 18446744073709551615 → z ≡ min (x + (n + m)) 18446744073709551615
+more_outs x y z n m p q = omega (arith, p, q)
+
+pub run-outs : (old new : Caller) (ds : List Done) → old.outs ≤ 18446744073709551615 → Runs old ds new → new.outs ≡ saturating_sum old.outs (sum_by (λ d. out_of d.sign) ds)
+run-outs old new [] le r = let e : new.outs ≡ old.outs = ap (λ (c : Caller). c.outs) r in omega (arith, le, e)
+run-outs old new (d ∷ ds) le r =
+    let first : r.0.outs ≡ min (old.outs + out_of d.sign) 18446744073709551615 = outs_step d.sign old r.0 le r.1.outs in
+    let within : r.0.outs ≤ 18446744073709551615 = omega (arith, first) in
+    more_outs old.outs r.0.outs new.outs (out_of d.sign) (sum_by (λ (d : Done). out_of d.sign) ds) first (run-outs r.0 new ds within r.2)
+    ∙ ap (λ (n : ℕ). min (old.outs + n) 18446744073709551615) (sym (sum_by-cons (λ (d : Done). out_of d.sign) d ds))

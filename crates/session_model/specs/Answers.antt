@@ -106,8 +106,8 @@ abbrev pub most_turns : ℕ
 most_turns = 268435456
 
 -- jobs of the build are out, or the turns are used up
-abbrev pub IsUnderWay : ℕ → ℕ → Type 0
-IsUnderWay out took = ((1 ≤ out) × (took ≤ most_turns)) ⊎ ((out ≡ 0) × (took ≡ most_turns))
+abbrev pub IsStillBuilding : ℕ → ℕ → Type 0
+IsStillBuilding out took = ((1 ≤ out) × (took ≤ most_turns)) ⊎ ((out ≡ 0) × (took ≡ most_turns))
 
 abbrev pub PublishAnswers : Bool → ℕ → History → History → Sign → Reply → Type 0
 PublishAnswers closes me h now signs.Plain reply = ⊥
@@ -117,7 +117,7 @@ PublishAnswers closes me h now (signs.Published snapshot upto) reply =
     (snapshot ≤ newest now) × (upto_of now snapshot ≡ upto) × (length (imports h) ≤ upto) × PublishesFew me h now
     × (reply ≡ done_reply closes (published_body snapshot upto))
 PublishAnswers closes me h now (signs.Building out took) reply =
-    IsUnderWay out took × PublishesFew me h now × (reply ≡ done_reply closes (building_body out took))
+    IsStillBuilding out took × PublishesFew me h now × (reply ≡ done_reply closes (building_body out took))
 
 -- ---- all requests
 

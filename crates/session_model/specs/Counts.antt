@@ -1,6 +1,6 @@
 -- What signs owe to the counts of a caller (our own). So no reply can say that others were at work unless the book said so, and none can answer from what was never asked.
-use Rattle.std.specs.Prelude.{ℕ, ◌+◌, ◌≤◌, min}
-use Rattle.book_model.specs.Desk.{Caller}
+use Rattle.std.specs.Prelude.{◌≡◌, ℕ, ◌+◌, ◌≤◌, min}
+use Rattle.book_model.specs.Desk.{Caller, saturating_sum}
 use Rattle.session_model.specs.declared.sign.Sign.{Sign}
 use Rattle.session_model.specs.declared.sign.Sign.TheVariants as signs
 
@@ -37,6 +37,22 @@ looks_of signs.Looked = 1
 looks_of (signs.Moved seen) = 0
 looks_of (signs.Published snapshot upto) = 1
 looks_of (signs.Building out took) = 0
+
+-- the number of jobs that a building tells to be out
+abbrev pub out_of : Sign → ℕ
+out_of signs.Plain = 0
+out_of signs.Looked = 0
+out_of (signs.Moved seen) = 0
+out_of (signs.Published snapshot upto) = 0
+out_of (signs.Building out took) = out
+
+-- The number is the one that the caller was told, and it was told no other.
+abbrev pub OutsAre : Sign → Caller → Caller → Type 0
+OutsAre signs.Plain old new = new.outs ≡ old.outs
+OutsAre signs.Looked old new = new.outs ≡ old.outs
+OutsAre (signs.Moved seen) old new = new.outs ≡ old.outs
+OutsAre (signs.Published snapshot upto) old new = new.outs ≡ old.outs
+OutsAre (signs.Building out took) old new = (1 ≤ out → new.outs ≡ saturating_sum old.outs out) × (out ≡ 0 → new.outs ≡ old.outs)
 
 -- the counts show what the sign says
 abbrev pub Counts : Sign → Caller → Caller → Type 0

@@ -1,10 +1,11 @@
 -- What one turn of a session reads and writes, and how it ends the session, if it does (RFC 9112, sections 9.3 and 9.6; the ends are our own).
 use Rattle.std.specs.Prelude.{◌≡◌, ◌⊎◌, ℕ, ◌<◌, Bool, true, false, ◌||◌, List, [], ◌∷◌, ◌++◌, length, take, Option, Some, None}
-use Rattle.std.specs.Io.KnownBytes.{Appends}
+use Rattle.std.specs.Io.KnownBytes.{Appends, prepend_known}
 use Rattle.settings.specs.declared.Settings.{Settings}
 use Rattle.book_model.specs.Desk.{Caller}
 use Rattle.http_wire.specs.declared.fault.WireFault.{WireFault}
 use Rattle.http_wire.specs.declared.room.Room.{Room}
+use Rattle.http_wire.specs.Ends.{head_len, front}
 use Rattle.http_wire.specs.Heads.{CutsInterim}
 use Rattle.http_wire.specs.Replies.{spelled, no_memory}
 use Rattle.http_wire.specs.Requests.{Next, Asked, Refused, Ended, Truncated, interim}
@@ -121,38 +122,42 @@ WritesRefusal s text out fault end out_now =
 abbrev pub WritesFailure : Option (List ℕ) → Option End → Option (List ℕ) → Type 0
 WritesFailure out end out_now = (waits : Bool) × WritesBehind out waits (spelled no_memory) end out_now
 
--- what is written where no request was read
-abbrev pub Stops : Settings → List ℕ → Option (List ℕ) → Option End → Option (List ℕ) → Type 0
-Stops s text out None out_now = ⊥
-Stops s text out (Some ends.Ended) out_now = Next (room_of s) text Ended × (out_now ≡ out)
-Stops s text out (Some ends.Asked) out_now = ⊥
-Stops s text out (Some ends.Served) out_now = ⊥
-Stops s text out (Some (ends.Refused fault)) out_now = WritesRefusal s text out fault (Some (ends.Refused fault)) out_now
-Stops s text out (Some ends.Truncated) out_now = (waits : Bool) × Next (room_of s) text (Truncated waits) × Appends out out_now (interim waits)
-Stops s text out (Some ends.ReadFault) out_now = (out_now ≡ out) ⊎ StopsBehindHead (room_of s) text out out_now
-Stops s text out (Some (ends.WriteFault n)) out_now =
+-- of the text the source gave no whole head, where this is what it has left
+abbrev pub GaveNoHead : List ℕ → Option (List ℕ) → Type 0
+GaveNoHead text rest = (given : List ℕ) × (prepend_known given rest ≡ Some text) × (head_len (front given) ≡ None)
+
+-- what is written where no request was read; `rest` is what the source has left
+abbrev pub Stops : Settings → List ℕ → Option (List ℕ) → Option End → Option (List ℕ) → Option (List ℕ) → Type 0
+Stops s text out None rest out_now = ⊥
+Stops s text out (Some ends.Ended) rest out_now = Next (room_of s) text Ended × (out_now ≡ out)
+Stops s text out (Some ends.Asked) rest out_now = ⊥
+Stops s text out (Some ends.Served) rest out_now = ⊥
+Stops s text out (Some (ends.Refused fault)) rest out_now = WritesRefusal s text out fault (Some (ends.Refused fault)) out_now
+Stops s text out (Some ends.Truncated) rest out_now = (waits : Bool) × Next (room_of s) text (Truncated waits) × Appends out out_now (interim waits)
+Stops s text out (Some ends.ReadFault) rest out_now = (GaveNoHead text rest × (out_now ≡ out)) ⊎ StopsBehindHead (room_of s) text out out_now
+Stops s text out (Some (ends.WriteFault n)) rest out_now =
     CutsInterim (room_of s) text out n out_now
     ⊎ (((fault : WireFault) × WritesRefusal s text out fault (Some (ends.WriteFault n)) out_now) ⊎ WritesFailure out (Some (ends.WriteFault n)) out_now)
-Stops s text out (Some ends.Memory) out_now = WritesFailure out (Some ends.Memory) out_now
+Stops s text out (Some ends.Memory) rest out_now = WritesFailure out (Some ends.Memory) out_now
 
 -- what the turn reads of a text, and what it writes
-abbrev pub TellsOf : Settings → List ℕ → Option (List ℕ) → Came → Option End → Option (List ℕ) → Option (List ℕ) → Type 0
-TellsOf s text out (Carried d) end left out_now = IsAsked s text d.asked left × WritesBehind out d.asked.waits (spelled d.reply) end out_now
-TellsOf s text out (Failed x) end left out_now = IsAsked s text x left × WritesBehind out x.waits (spelled no_memory) end out_now
-TellsOf s text out Nothing end left out_now = Stops s text out end out_now
+abbrev pub TellsOf : Settings → List ℕ → Option (List ℕ) → Came → Option End → Option (List ℕ) → Option (List ℕ) → Option (List ℕ) → Type 0
+TellsOf s text out (Carried d) end rest left out_now = IsAsked s text d.asked left × WritesBehind out d.asked.waits (spelled d.reply) end out_now
+TellsOf s text out (Failed x) end rest left out_now = IsAsked s text x left × WritesBehind out x.waits (spelled no_memory) end out_now
+TellsOf s text out Nothing end rest left out_now = Stops s text out end rest out_now
 
 -- the same where the source tells its bytes
-abbrev pub Tells : Settings → Option (List ℕ) → Option (List ℕ) → Came → Option End → Option (List ℕ) → Option (List ℕ) → Type 0
-Tells s None out came end left out_now = Unit {0}
-Tells s (Some text) out came end left out_now = TellsOf s text out came end left out_now
+abbrev pub Tells : Settings → Option (List ℕ) → Option (List ℕ) → Came → Option End → Option (List ℕ) → Option (List ℕ) → Option (List ℕ) → Type 0
+Tells s None out came end rest left out_now = Unit {0}
+Tells s (Some text) out came end rest left out_now = TellsOf s text out came end rest left out_now
 
 -- ---- one turn
 
--- One turn of a session: between two moments of the caller, the texts that are left and what was written, the points and the signs.
-pub record Turn (s : Settings) (last : Bool) (old new : Caller) (text out : Option (List ℕ)) (end : Option End) (left out_now : Option (List ℕ)) (points points_now : List ℕ) (signs signs_now : List Sign) : Type 0 where
+-- One turn of a session: between two moments of the caller, the text that is asked, what the source has left and what is left with what is held, what was written, the points and the signs.
+pub record Turn (s : Settings) (last : Bool) (old new : Caller) (text out : Option (List ℕ)) (end : Option End) (rest left out_now : Option (List ℕ)) (points points_now : List ℕ) (signs signs_now : List Sign) : Type 0 where
   pub came : Came
   pub happens : Happens old new came
   pub fits : Fits last came end
-  pub tells : Tells s text out came end left out_now
+  pub tells : Tells s text out came end rest left out_now
   pub points_are : points_now ≡ points ++ points_of came
   pub signs_are : signs_now ≡ signs ++ signs_of came

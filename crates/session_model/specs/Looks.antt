@@ -1,17 +1,13 @@
 -- Replies of snapshots (OSV.dev API v1, "POST /v1/query" and "GET /v1/vulns/{id}"; pages, tokens and the least snapshot are our own). The tests stand in the order in which they are made.
 use Rattle.std.specs.Prelude.{ℕ, ◌+◌, Bool, true, List, length, take, filter, Option, Some, None, option_map, Result, Ok, Err, nat_lt, nat_le, if◌then◌else◌}
-use Rattle.std.specs.Ordering.{nat_cmp, is_lt}
-use Rattle.std.specs.Cmp.Lexicographic.{slice_cmp}
 use Rattle.osv_prim.specs.Numerals.{u64_of}
-use Rattle.osv_prim.specs.declared.subject.Subject.{Subject}
 use Rattle.osv_record.specs.Advisories.{Advisory}
-use Rattle.evaluate.specs.Hits.{hits}
 use Rattle.page_token.specs.declared.token.Token.{Token}
 use Rattle.query_json.specs.declared.query.Query.{Query}
 use Rattle.history.specs.declared.past.Past.{Past}
 use Rattle.history.specs.Entries.{History, newest, snap, oldest_kept}
-use Rattle.history.specs.Prefixes.{advisories, graphs}
 use Rattle.history.specs.Lookups.{record_of}
+use Rattle.snapshot.specs.Pages.{page}
 use Rattle.http_wire.specs.declared.reply.Reply.{Reply}
 use Rattle.reply_json.specs.declared.refusal.Refusal.{Refusal}
 use Rattle.reply_json.specs.declared.refusal.Refusal.TheVariants as refusals
@@ -46,21 +42,12 @@ named_by token = option_map (λ (t : Token). t.snapshot) token
 abbrev pub after_of : Option Token → Option (List ℕ)
 after_of token = option_map (λ (t : Token). t.after) token
 
--- its id is above this one, where one is given
-abbrev pub is_above : Option (List ℕ) → Advisory → Bool
-is_above None r = true
-is_above (Some after) r = is_lt (slice_cmp nat_cmp after r.id)
-
--- the hits of imports whose ids are above this one, ascending by id
-abbrev pub hits_above : List Past → Subject → Option (List ℕ) → List Advisory
-hits_above p subject after = filter (is_above after) (hits (advisories p) (graphs p) subject)
-
 -- the first so many hits of a snapshot's imports behind an id
 abbrev pub page_of : ℕ → List Past → ℕ → Query → Answer
 page_of size p snapshot q = record {
   snapshot = snapshot;
-  found = take size (hits_above p q.subject (after_of q.page));
-  more = nat_lt size (length (hits_above p q.subject (after_of q.page)));
+  found = (page p q.subject (after_of q.page) size).found;
+  more = (page p q.subject (after_of q.page) size).more;
 }
 
 abbrev pub page_reply : Bool → ℕ → History → Query → Result ℕ Refusal → Reply

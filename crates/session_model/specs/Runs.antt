@@ -9,7 +9,7 @@ use Rattle.http_wire.specs.declared.reply.Reply.{Reply}
 use Rattle.http_wire.specs.Series.{Exchange}
 use Rattle.session_model.specs.declared.sign.Sign.{Sign}
 use Rattle.session_model.specs.Answers.{Answers}
-use Rattle.session_model.specs.Counts.{Counts}
+use Rattle.session_model.specs.Counts.{Counts, OutsAre}
 
 -- a request that was carried out, whether the connection closes behind it, its point, its sign and its reply
 pub record Done : Type 0 where
@@ -33,6 +33,7 @@ pub record Carries (old new : Caller) (d : Done) : Type 0 where
   pub point_is : d.point ≡ length new.front
   pub answers : Answers old.settings d.closes old.me old.front new.front d.asked.request d.sign d.reply
   pub counts : Counts d.sign old new
+  pub outs : OutsAre d.sign old new
 
 -- these requests were carried out, one after another
 abbrev pub Runs : Caller → List Done → Caller → Type 0

@@ -37,8 +37,8 @@ pub record SoFar (s : Settings) (more : ℕ) (old now : Caller) (text out left o
   pub signs_are : signs ≡ map (λ d. d.sign) done
   pub asked : AreAsked s text out done left out_now
 
--- The session: requests behind which the connection stays open, and then the turn that ends it.
-pub record Session (s : Settings) (old new : Caller) (text out out_now : Option (List ℕ)) (points : List ℕ) (signs : List Sign) (end : End) : Type 0 where
+-- The session: requests behind which the connection stays open, and then the turn that ends it; `rest` is what the source has left.
+pub record Session (s : Settings) (old new : Caller) (text rest out out_now : Option (List ℕ)) (points : List ℕ) (signs : List Sign) (end : End) : Type 0 where
   pub more : ℕ
   pub some : 0 < more
   pub mid : Caller
@@ -48,7 +48,7 @@ pub record Session (s : Settings) (old new : Caller) (text out out_now : Option 
   pub signs_mid : List Sign
   pub so_far : SoFar s more old mid text out left_mid out_mid points_mid signs_mid
   pub left : Option (List ℕ)
-  pub ended : Turn s (nat_le more 1) mid new left_mid out_mid (Some end) left out_now points_mid points signs_mid signs
+  pub ended : Turn s (nat_le more 1) mid new left_mid out_mid (Some end) rest left out_now points_mid points signs_mid signs
 
 -- What a session is to its desk: requests that were carried out, one after another, with their points and signs, and behind them at most one for which there was no memory.
 pub record IsRun (old new : Caller) (points : List ℕ) (signs : List Sign) : Type 0 where

@@ -25,7 +25,8 @@ pub enum End {
 /// What is left of a session.
 #[derive(Debug, Drop)]
 pub struct SessionEnd {
-    /// For each request that was carried out, how many entries the history had behind its last step.
+    /// For each request that was carried out, how many entries the history had behind its last step; where
+    /// it asked nothing of the book, the point before it.
     pub points: Vec<u64>,
     /// For each of them, what its reply owes to the book.
     pub signs: Vec<Sign>,

@@ -9,6 +9,7 @@ pub enum Sign {
     Moved { seen: u64 },
     /// A snapshot, by its number, and how many imports it is of.
     Published { snapshot: u64, upto: u64 },
-    /// A build is under way: how many of its jobs are out, and how many turns this request took.
+    /// A build is under way: how many of its jobs are out, 0 where the turns were used up, and how many
+    /// turns this request took.
     Building { out: u64, took: u64 },
 }

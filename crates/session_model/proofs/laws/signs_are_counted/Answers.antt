@@ -1,5 +1,8 @@
-use Rattle.session_model.proofs.Counting.{run-counts}
+use Rattle.session_model.proofs.Counting.{run-counts, run-outs}
 use Rattle.session_model.proofs.laws.signs_are_counted.Goals as goal
 
-pub returns : goal.returns
-returns c = run-counts
+pub returns-clause-rises : goal.returns-clause-rises
+returns-clause-rises c = run-counts
+
+pub returns-clause-outs : goal.returns-clause-outs
+returns-clause-outs c = run-outs
