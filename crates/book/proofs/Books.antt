@@ -1,0 +1,281 @@
+-- What each step leaves of what a book keeps.
+use Rattle.std.proofs.Common.{◌≡◌, ℕ, zero, suc, ◌+◌, ◌-◌, ◌*◌, ◌^◌, ◌<◌, ◌≤◌, List, [], ◌∷◌, ◌++◌, length, map, take, drop, refl, sym, ap, subst, ◌∙◌, arith, length-append}
+use Rattle.std.specs.Prelude.{Option, Some, None, Ok, Err, IfSome, IsSomeAnd, All}
+use Rattle.std.proofs.Math.Seq.{take-length}
+use Rattle.std.proofs.lemmas.List.Elements.{All-nil}
+use Rattle.osv_prim.specs.declared.memory.Memory.{Memory}
+use Rattle.osv_record.specs.Advisories.{Advisory}
+use Rattle.settings.specs.declared.Settings.{Settings}
+use Rattle.settings.specs.Ranges.{AreInRange}
+use Rattle.turn_lock.specs.declared.note.Note.{Note}
+use Rattle.history.specs.declared.past.Past.{Past}
+use Rattle.history.specs.declared.past.Past.TheVariants.{Import, Publish}
+use Rattle.history.specs.Entries.{History, caller, imports, newest, upto_of, snap, weight, entry_weight, oldest_kept}
+use Rattle.history.proofs.Entries.{imports-append, weight-append, count-le-weight, few}
+use Rattle.history.proofs.Legality.{legal-empty}
+use Rattle.history.proofs.Conditions.{weight-push}
+use Rattle.book_model.specs.declared.answers.Taken.TheVariants as taken
+use Rattle.book_model.specs.declared.answers.Pulled.TheVariants as pulled
+use Rattle.book_model.specs.declared.answers.Progress.TheVariants as progress
+use Rattle.book_model.specs.State.{Kind, Plan, Assemble, Cell, Free, Build, State, first_note, published, opened, cells_in, with_entry, with_build}
+use Rattle.book_model.specs.Jobs.{StandsIn, owner}
+use Rattle.book_model.specs.Steps.{GoesOut, freed}
+use Rattle.book_model.specs.Sound.{IsOpen, IsSound}
+use Rattle.book_model.proofs.Owned.{some_weaker, owned}
+use Rattle.book_model.proofs.Sound.{enrols-sound, imports-sound, pulls-sound, takes-sound, finishes-sound, gives_back-sound}
+use Rattle.book_model.proofs.Lasting.{stands-lasts}
+use Rattle.snapshot.specs.declared.snapshot.Snapshot.{Snapshot}
+use Rattle.snapshot.specs.declared.job.Job.{Job}
+use Rattle.snapshot.specs.Snapshots.{StandsFor}
+use Rattle.book.specs.Works.{is_work, name_of}
+use Rattle.snapshot.specs.Jobs.{name, IsJob, only}
+use Rattle.book.specs.declared.build.Open.{Open}
+use Rattle.book.specs.declared.build.Stage.{Stage}
+use Rattle.book.specs.declared.build.Stage.TheVariants as stages
+use Rattle.book.specs.declared.ledger.Counts.{Counts}
+use Rattle.book.specs.Builds.{phase_of, stage_work, build_with, build_of, IsUnderWay}
+use Rattle.book.specs.Books.{state_of, AreKept, IsBook}
+use Rattle.book.proofs.Keeping.{newest-import, published-import, imports-publish, newest-publish, published-publish, front-stays, first_imports, all_imports, kept-lasts, kept-push, kept-rest}
+
+-- ---- parts of a build
+
+abbrev upto_in : Option Build → ℕ
+upto_in None = 0
+upto_in (Some q) = q.upto
+
+abbrev phase_in : Option Build → Kind
+phase_in None = Plan
+phase_in (Some q) = q.phase
+
+abbrev with_free : ℕ → Kind → Build
+with_free upto kind = record { upto = upto; phase = kind; cells = Free ∷ [] }
+
+-- ---- a new book
+
+pub book-new : (settings : Settings) (empty : Snapshot) → AreInRange settings → StandsFor empty [] → IsBook settings [] 0 None first_note (record { imports = 0; used = 0; newest = 0; published = 0; after = 0 }) (empty ∷ [])
+book-new settings empty range st =
+    let keep : 1 ≤ settings.keep = range.keep.0 in
+    let oldest : oldest_kept settings.keep [] ≡ 0 = omega (arith, keep) in
+    record {
+      sound = record { legal = legal-empty; within = omega arith; given = All-nil (λ (e : Past). caller e < 0); callers = omega arith; build = tt };
+      range = range;
+      imported = refl;
+      used = refl;
+      newest_is = refl;
+      published_is = refl;
+      after = omega arith;
+      reached = refl;
+      kept_are = subst (λ (s : ℕ). AreKept [] s (empty ∷ [])) (sym oldest) (st, tt);
+      kept_count = omega (arith, keep);
+      underway = tt;
+    }
+
+-- ---- numbers
+
+-- how many imports and snapshots there may be
+pub few_in_book : (settings : Settings) (h : History) (callers : ℕ) (build : Option Open) (note : Note) (counts : Counts) (kept : List Snapshot)
+    → IsBook settings h callers build note counts kept → (counts.newest ≤ counts.imports) × (64 * counts.imports ≤ counts.used) × (counts.used ≤ settings.weight) × (settings.weight ≤ 4294967296)
+few_in_book settings h callers build note counts kept b =
+    let f : newest h ≤ length (imports h) = few h b.sound.legal.published in
+    let w : 64 * length (imports h) ≤ weight h = count-le-weight h in
+    let within : weight h ≤ settings.weight = b.sound.within in
+    (omega (arith, f, b.newest_is, b.imported), omega (arith, w, b.imported, b.used), omega (arith, within, b.used), b.range.weight.1)
+
+-- some snapshot is kept, and no more than the settings say
+pub kept_in_book : (settings : Settings) (h : History) (callers : ℕ) (build : Option Open) (note : Note) (counts : Counts) (kept : List Snapshot)
+    → IsBook settings h callers build note counts kept → (1 ≤ length kept) × (length kept ≤ settings.keep)
+kept_in_book settings h callers build note counts kept b =
+    let keep : 1 ≤ settings.keep = b.range.keep.0 in
+    (omega (arith, b.kept_count, b.newest_is, keep), omega (arith, b.kept_count, b.newest_is, keep))
+
+-- ---- steps that leave the history
+
+pub book-noted : (settings : Settings) (h : History) (callers : ℕ) (build : Option Open) (old new : Note) (counts : Counts) (kept : List Snapshot) → IsBook settings h callers build old counts kept → IsBook settings h callers build new counts kept
+book-noted settings h callers build old new counts kept b =
+    record {
+      sound = record { legal = b.sound.legal; within = b.sound.within; given = b.sound.given; callers = b.sound.callers; build = b.sound.build };
+      range = b.range;
+      imported = b.imported;
+      used = b.used;
+      newest_is = b.newest_is;
+      published_is = b.published_is;
+      after = b.after;
+      reached = b.reached;
+      kept_are = b.kept_are;
+      kept_count = b.kept_count;
+      underway = b.underway;
+    }
+
+pub book-enrolled : (settings : Settings) (h : History) (callers : ℕ) (build : Option Open) (note : Note) (counts : Counts) (kept : List Snapshot) → callers < 2 ^ 63 → IsBook settings h callers build note counts kept → IsBook settings h (callers + 1) build note counts kept
+book-enrolled settings h callers build note counts kept lt b =
+    record {
+      sound = enrols-sound (state_of settings h callers build note) (state_of settings h (callers + 1) build note) (Ok callers) b.sound (refl, lt, refl);
+      range = b.range;
+      imported = b.imported;
+      used = b.used;
+      newest_is = b.newest_is;
+      published_is = b.published_is;
+      after = b.after;
+      reached = b.reached;
+      kept_are = b.kept_are;
+      kept_count = b.kept_count;
+      underway = b.underway;
+    }
+
+-- another build, whose state is sound
+pub book-build : (settings : Settings) (h : History) (callers : ℕ) (old new : Option Open) (note : Note) (counts : Counts) (kept : List Snapshot)
+    → IsSound (state_of settings h callers new note) → IfSome new (λ o. IsUnderWay (counts.newest + 1) h o.upto o.place o.stage)
+    → IsBook settings h callers old note counts kept → IsBook settings h callers new note counts kept
+book-build settings h callers old new note counts kept sound way b =
+    record {
+      sound = sound;
+      range = b.range;
+      imported = b.imported;
+      used = b.used;
+      newest_is = b.newest_is;
+      published_is = b.published_is;
+      after = b.after;
+      reached = b.reached;
+      kept_are = b.kept_are;
+      kept_count = b.kept_count;
+      underway = way;
+    }
+
+-- ---- an import
+
+way-lasts : (next : ℕ) (h more : History) (o : Open) → IsUnderWay next h o.upto o.place o.stage → IsUnderWay next (h ++ more) o.upto o.place o.stage
+way-lasts next h more o w =
+    let longer : length (h ++ more) ≡ length h + length more = length-append h more in
+    record {
+      holds = stands-lasts (is_work (stage_work next o.stage)) next o.upto h (h ++ more) (more, refl) w.holds;
+      named = w.named;
+      within = omega (arith, longer, w.within);
+      reached = front-stays h more o.place w.within ∙ w.reached;
+    }
+
+pub book-imported : (settings : Settings) (h : History) (callers : ℕ) (build : Option Open) (note : Note) (counts : Counts) (kept : List Snapshot) (by w : ℕ) (r : Advisory)
+    → by < callers → w ≡ entry_weight (Import by r) → counts.used + w ≤ settings.weight → IsBook settings h callers build note counts kept
+    → IsBook settings (h ++ Import by r ∷ []) callers build note (record { imports = counts.imports + 1; used = counts.used + w; newest = counts.newest; published = counts.published; after = counts.after }) kept
+book-imported settings h callers build note counts kept by w r lt is room b =
+    let e : Past = Import by r in
+    let count : length (imports (h ++ Import by r ∷ [])) ≡ length (imports h) + 1 =
+    ap (λ (xs : List Past). length xs) (imports-append h (Import by r ∷ [])) ∙ length-append (imports h) (Import by r ∷ []) in
+    let weighs : weight (h ++ Import by r ∷ []) ≡ weight h + entry_weight (Import by r) = weight-push h (Import by r) in
+    let news : newest (h ++ Import by r ∷ []) ≡ newest h = newest-import h by r in
+    let longer : length (h ++ Import by r ∷ []) ≡ length h + 1 = length-append h (Import by r ∷ []) in
+    let oldest : oldest_kept settings.keep (h ++ Import by r ∷ []) ≡ oldest_kept settings.keep h = ap (λ (n : ℕ). n + 1 - settings.keep) news in
+    record {
+      sound = imports-sound by r (state_of settings h callers build note) (state_of settings (h ++ Import by r ∷ []) callers build note) (Ok (length h)) lt b.sound (omega (arith, b.used, is, room), refl, refl);
+      range = b.range;
+      imported = omega (arith, count, b.imported);
+      used = omega (arith, weighs, b.used, is);
+      newest_is = b.newest_is ∙ sym news;
+      published_is = b.published_is ∙ sym (published-import h by r);
+      after = omega (arith, longer, b.after);
+      reached = front-stays h (Import by r ∷ []) counts.after b.after ∙ b.reached;
+      kept_are =
+          subst (λ (s : ℕ). AreKept (h ++ Import by r ∷ []) s kept) (sym oldest)
+          (kept-lasts h (Import by r ∷ []) (oldest_kept settings.keep h) kept b.sound.legal (omega (arith, b.kept_count, b.newest_is)) b.kept_are);
+      kept_count = omega (arith, b.kept_count, oldest);
+      underway = some_weaker (λ (o : Open). IsUnderWay (counts.newest + 1) h o.upto o.place o.stage) (λ (o : Open). IsUnderWay (counts.newest + 1) (h ++ Import by r ∷ []) o.upto o.place o.stage) build (way-lasts (counts.newest + 1) h (Import by r ∷ [])) b.underway;
+    }
+
+-- ---- a publication
+
+-- the snapshots with a new one
+pub kept-published : (settings : Settings) (h : History) (callers : ℕ) (build : Option Open) (note : Note) (counts : Counts) (kept : List Snapshot) (by upto : ℕ) (x : Snapshot)
+    → StandsFor x (take upto (imports h)) → IsBook settings h callers build note counts kept
+    → AreKept (h ++ Publish by upto ∷ []) (oldest_kept settings.keep h) (kept ++ x ∷ [])
+kept-published settings h callers build note counts kept by upto x st b =
+    let more : History = Publish by upto ∷ [] in
+    let last : snap (h ++ Publish by upto ∷ []) (newest h + 1) ≡ take upto (imports h) =
+    ap (λ (n : ℕ). snap (h ++ Publish by upto ∷ []) n) (sym (newest-publish h by upto))
+    ∙ ap (λ (n : ℕ). take n (imports (h ++ Publish by upto ∷ []))) (published-publish h by upto) ∙ ap (λ (xs : List Past). take upto xs) (imports-publish h by upto) in
+    kept-push (h ++ Publish by upto ∷ []) (oldest_kept settings.keep h) (newest h + 1) kept x (omega (arith, b.kept_count, b.newest_is))
+    (kept-lasts h (Publish by upto ∷ []) (oldest_kept settings.keep h) kept b.sound.legal (omega (arith, b.kept_count, b.newest_is)) b.kept_are)
+    (subst (λ (p : List Past). StandsFor x p) (sym last) st)
+
+pub book-published : (settings : Settings) (h : History) (callers : ℕ) (o : Open) (note : Note) (counts : Counts) (kept left : List Snapshot) (by next upto : ℕ) (x : Snapshot)
+    → by < callers → owner (state_of settings h callers (Some o) note) (only next upto Assemble) ≡ Some by → StandsIn (λ base p. StandsFor x p) next upto h
+    → IsBook settings h callers (Some o) note counts kept
+    → length left + oldest_kept settings.keep (h ++ Publish by upto ∷ []) ≡ counts.newest + 2
+    → AreKept (h ++ Publish by upto ∷ []) (oldest_kept settings.keep (h ++ Publish by upto ∷ [])) left
+    → IsBook settings (h ++ Publish by upto ∷ []) callers None note (record { imports = counts.imports; used = counts.used; newest = counts.newest + 1; published = upto; after = o.place }) left
+book-published settings h callers o note counts kept left by next upto x lt out st b count are =
+    let w = owned (build_of (Some o)) (newest h + 1) (only next upto Assemble) by out in
+    let same : upto ≡ o.upto = w.upto ∙ sym (ap (λ (q : Option Build). upto_in q) w.there) in
+    let way : IsUnderWay (counts.newest + 1) h o.upto o.place o.stage = b.underway in
+    let weighs : weight (h ++ Publish by upto ∷ []) ≡ weight h + 0 = weight-push h (Publish by upto) in
+    let longer : length (h ++ Publish by upto ∷ []) ≡ length h + 1 = length-append h (Publish by upto ∷ []) in
+    record {
+      sound = finishes-sound by (record { job = only next upto Assemble; cells = [] }) (state_of settings h callers (Some o) note) (state_of settings (h ++ Publish by upto ∷ []) callers None note)
+          (Ok (progress.Published (length h) (newest h + 1))) lt refl b.sound (out, (refl, refl, refl));
+      range = b.range;
+      imported = b.imported ∙ sym (ap (λ (xs : List Past). length xs) (imports-publish h by upto));
+      used = omega (arith, weighs, b.used);
+      newest_is = omega (arith, newest-publish h by upto, b.newest_is);
+      published_is = sym (published-publish h by upto);
+      after = omega (arith, longer, way.within);
+      reached = front-stays h (Publish by upto ∷ []) o.place way.within ∙ way.reached ∙ sym same;
+      kept_are = are;
+      kept_count = omega (arith, count);
+      underway = tt;
+    }
+
+-- ---- builds
+
+-- the prefix of a build over all imports
+pub opened-way : (settings : Settings) (h : History) (callers : ℕ) (build : Option Open) (note : Note) (counts : Counts) (kept : List Snapshot) (stage : Stage)
+    → published h < length (imports h)
+    → is_work (stage_work (counts.newest + 1) stage) (snap h (newest h)) (snap h (newest h) ++ imports (drop counts.after h))
+    → ((b p : List Past) → is_work (stage_work (counts.newest + 1) stage) b p → (name_of (stage_work (counts.newest + 1) stage)).upto ≡ length p)
+    → IsBook settings h callers build note counts kept → IsUnderWay (counts.newest + 1) h counts.imports (length h) stage
+opened-way settings h callers build note counts kept stage more work upto b =
+    let next : ℕ = counts.newest + 1 in
+    let base : counts.newest + 1 - 1 ≡ newest h = omega (arith, b.newest_is) in
+    let all : snap h (newest h) ++ imports (drop counts.after h) ≡ imports h = all_imports h counts.after (published h) (b.reached ∙ b.published_is) in
+    let whole : take counts.imports (imports h) ≡ imports h = ap (λ (n : ℕ). take n (imports h)) b.imported ∙ take-length (imports h) in
+    let over : is_work (stage_work (counts.newest + 1) stage) (snap h (newest h)) (imports h) = subst (λ (p : List Past). is_work (stage_work (counts.newest + 1) stage) (snap h (newest h)) p) all work in
+    record {
+      holds = record {
+        within = record {
+          positive = omega arith;
+          published = omega (arith, base);
+          came = omega (arith, b.imported);
+          reaches = subst (λ (s : ℕ). upto_of h s ≤ counts.imports) (sym base) (let lt : published h < length (imports h) = more in omega (arith, lt, b.imported));
+        };
+        stands =
+            subst (λ (s : ℕ). is_work (stage_work (counts.newest + 1) stage) (snap h s) (take counts.imports (imports h))) (sym base)
+            (subst (λ (p : List Past). is_work (stage_work (counts.newest + 1) stage) (snap h (newest h)) p) (sym whole) over);
+      };
+      named = upto (snap h (newest h)) (imports h) over ∙ sym b.imported;
+      within = omega arith;
+      reached = ap (λ (x : History). length (imports x)) (take-length h) ∙ sym b.imported;
+    }
+
+-- the plan of a build was handed in
+pub planned-way : (settings : Settings) (h : History) (callers : ℕ) (o : Open) (note : Note) (counts : Counts) (kept : List Snapshot) (by build upto : ℕ) (stage : Stage)
+    → owner (state_of settings h callers (Some o) note) (only build upto Plan) ≡ Some by
+    → StandsIn (is_work (stage_work build stage)) build upto h → (name_of (stage_work build stage)).upto ≡ upto
+    → IsBook settings h callers (Some o) note counts kept → IsUnderWay (counts.newest + 1) h upto o.place stage
+planned-way settings h callers o note counts kept by build upto stage out st named b =
+    let w = owned (build_of (Some o)) (newest h + 1) (only build upto Plan) by out in
+    let same : upto ≡ o.upto = w.upto ∙ sym (ap (λ (q : Option Build). upto_in q) w.there) in
+    let next : build ≡ counts.newest + 1 = w.build ∙ ap (λ (n : ℕ). n + 1) (sym b.newest_is) in
+    let way : IsUnderWay (counts.newest + 1) h o.upto o.place o.stage = b.underway in
+    record {
+      holds = subst (λ (n : ℕ). StandsIn (is_work (stage_work n stage)) n upto h) next st;
+      named = subst (λ (n : ℕ). (name_of (stage_work n stage)).upto ≡ upto) next named;
+      within = way.within;
+      reached = way.reached ∙ sym same;
+    }
+
+-- a job that is given back, of the build that is open
+pub freed-same : (settings : Settings) (h : History) (callers : ℕ) (o : Open) (note : Note) (by build upto : ℕ) (kind : Kind)
+    → owner (state_of settings h callers (Some o) note) (only build upto kind) ≡ Some by
+    → build_with o.upto o.stage None ≡ freed (only build upto kind) (cells_in (build_of (Some o)))
+freed-same settings h callers o note by build upto kind out =
+    let w = owned (build_of (Some o)) (newest h + 1) (only build upto kind) by out in
+    let same : upto ≡ o.upto = w.upto ∙ sym (ap (λ (q : Option Build). upto_in q) w.there) in
+    let at : kind ≡ phase_of o.stage = w.kind ∙ sym (ap (λ (q : Option Build). phase_in q) w.there) in
+    ap (λ (u : ℕ). with_free u (phase_of o.stage)) (sym same) ∙ ap (λ (k : Kind). with_free upto k) (sym at)

@@ -1,0 +1,5 @@
+pub mod Handing
+pub mod Keeping
+pub mod Books
+pub mod Numbers
+pub mod Opening
