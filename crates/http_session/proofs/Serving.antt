@@ -29,10 +29,10 @@ pub none-answered : (s : Settings) (before out : Option (List ℕ)) → SoFar s 
 none-answered s None out = tt
 none-answered s (Some text) out = record { asked = []; asks = refl; open_ = All-nil StaysOpen; count = omega arith; wrote = adds-nothing out out refl }
 
-one-more : (s : Settings) (n : ℕ) (text mid : List ℕ) (left out out_mid out_now : Option (List ℕ)) → 0 < n → Answered s n text out mid out_mid → TurnTells s (nat_le n 1) (Some mid) out_mid None left out_now
+one-more : (s : Settings) (n : ℕ) (text mid : List ℕ) (unread left out out_mid out_now : Option (List ℕ)) → 0 < n → Answered s n text out mid out_mid → TurnTells s (nat_le n 1) (Some mid) out_mid None unread left out_now
     → SoFar s (n - 1) (Some text) out left out_now
-one-more s n text mid None out out_mid out_now some a t = absurd cc
-one-more s n text mid (Some rest) out out_mid out_now some a t =
+one-more s n text mid unread None out out_mid out_now some a t = absurd cc
+one-more s n text mid unread (Some rest) out out_mid out_now some a t =
     let same : t.1 ≡ rest = cc in
     let last : flat_map answered (a.asked ++ t.0 ∷ []) ≡ flat_map answered a.asked ++ answered t.0 =
     flat_map-append answered a.asked (t.0 ∷ []) ∙ ap (λ (l : List ℕ). flat_map answered a.asked ++ l) (append-nil (answered t.0)) in
@@ -44,17 +44,17 @@ one-more s n text mid (Some rest) out out_mid out_now some a t =
       wrote = rw last (Appends-then out out_mid out_now (flat_map answered a.asked) (answered t.0) a.wrote t.6);
     }
 
-pub turn-more : (s : Settings) (n : ℕ) (before now left out out_mid out_now : Option (List ℕ)) → 0 < n → SoFar s n before out now out_mid → TurnTells s (nat_le n 1) now out_mid None left out_now
+pub turn-more : (s : Settings) (n : ℕ) (before now unread left out out_mid out_now : Option (List ℕ)) → 0 < n → SoFar s n before out now out_mid → TurnTells s (nat_le n 1) now out_mid None unread left out_now
     → SoFar s (n - 1) before out left out_now
-turn-more s n None now left out out_mid out_now some a t = tt
-turn-more s n (Some text) None left out out_mid out_now some a t = absurd a
-turn-more s n (Some text) (Some mid) left out out_mid out_now some a t = one-more s n text mid left out out_mid out_now some a t
+turn-more s n None now unread left out out_mid out_now some a t = tt
+turn-more s n (Some text) None unread left out out_mid out_now some a t = absurd a
+turn-more s n (Some text) (Some mid) unread left out out_mid out_now some a t = one-more s n text mid unread left out out_mid out_now some a t
 
-pub turn-end : (s : Settings) (n : ℕ) (before now left out out_mid out_now : Option (List ℕ)) (end : End) → 0 < n → SoFar s n before out now out_mid
-    → TurnTells s (nat_le n 1) now out_mid (Some end) left out_now → SessionTells s before out end out_now
-turn-end s n None now left out out_mid out_now end some a t = tt
-turn-end s n (Some text) None left out out_mid out_now end some a t = absurd a
-turn-end s n (Some text) (Some mid) left out out_mid out_now end some a t = record {
+pub turn-end : (s : Settings) (n : ℕ) (before now unread left out out_mid out_now : Option (List ℕ)) (end : End) → 0 < n → SoFar s n before out now out_mid
+    → TurnTells s (nat_le n 1) now out_mid (Some end) unread left out_now → SessionTells s before unread out end out_now
+turn-end s n None now unread left out out_mid out_now end some a t = tt
+turn-end s n (Some text) None unread left out out_mid out_now end some a t = absurd a
+turn-end s n (Some text) (Some mid) unread left out out_mid out_now end some a t = record {
   answered_first = a.asked;
   rest = mid;
   asks = a.asks;
@@ -68,7 +68,7 @@ turn-end s n (Some text) (Some mid) left out out_mid out_now end some a t = reco
 }
 
 -- a session that found no memory before its first request
-pub failed-first : (s : Settings) (before out out_now : Option (List ℕ)) (end : End) → 1 ≤ s.requests → FailureTells out end out_now → SessionTells s before out end out_now
-failed-first s None out out_now end some f = tt
-failed-first s (Some text) out out_now end some f =
-    turn-end s s.requests (Some text) (Some text) (Some text) out out out_now end (omega arith) (none-answered s (Some text) out) (failed-turn s (nat_le s.requests 1) text (Some text) out out_now end f)
+pub failed-first : (s : Settings) (before unread out out_now : Option (List ℕ)) (end : End) → 1 ≤ s.requests → FailureTells out end out_now → SessionTells s before unread out end out_now
+failed-first s None unread out out_now end some f = tt
+failed-first s (Some text) unread out out_now end some f =
+    turn-end s s.requests (Some text) (Some text) unread (Some text) out out out_now end (omega arith) (none-answered s (Some text) out) (failed-turn s (nat_le s.requests 1) text unread (Some text) out out_now end f)

@@ -1,6 +1,6 @@
 -- One turn of a session.
 use Rattle.std.proofs.Common.{◌≡◌, ℕ, ◌<◌, Bool, true, false, ◌||◌, inl, inr, ◌⊎◌, List, [], ◌++◌, length, take, Option, Some, None, refl, sym, ap, subst, ◌∙◌}
-use Rattle.std.specs.Io.KnownBytes.{Appends}
+use Rattle.std.specs.Io.KnownBytes.{Appends, prepend_known}
 use Rattle.std.proofs.lemmas.List.{append-nil}
 use Rattle.edge_io.proofs.Known.{Appends-then}
 use Rattle.settings.specs.declared.Settings.{Settings}
@@ -69,92 +69,93 @@ failed-refusal s fault out out_now ends.Memory f = f
 exchange : Request → Bool → Exchange
 exchange r w = record { request = r; waits = w }
 
-request-then : (s : Settings) (last : Bool) (text : List ℕ) (left out mid out_now : Option (List ℕ)) (r : Request) (held : List ℕ) (o : Option End)
-    → RequestTells (room_of s) (Some text) out (got.Request r) held left mid → AnswerTells r.close last mid o out_now → TurnOf s last text out o left out_now
+request-then : (s : Settings) (last : Bool) (text : List ℕ) (unread left out mid out_now : Option (List ℕ)) (r : Request) (held : List ℕ) (o : Option End)
+    → RequestTells (room_of s) (Some text) out (got.Request r) held left mid → AnswerTells r.close last mid o out_now → TurnOf s last text out o unread left out_now
 unfolding exchange
-request-then s last text left out mid out_now r held None h a =
+request-then s last text unread left out mid out_now r held None h a =
     (exchange r h.0, h.1, h.2, h.3, a.0, a.1, Appends-then out mid out_now (interim h.0) (spelled (path_reply false)) h.4 a.2)
-request-then s last text left out mid out_now r held (Some ends.Ended) h a = absurd a
-request-then s last text left out mid out_now r held (Some ends.Asked) h a =
+request-then s last text unread left out mid out_now r held (Some ends.Ended) h a = absurd a
+request-then s last text unread left out mid out_now r held (Some ends.Asked) h a =
     (interim h.0 ++ spelled (path_reply true), (exchange r h.0, h.1, h.3, a.0, refl), Appends-then out mid out_now (interim h.0) (spelled (path_reply true)) h.4 a.1)
-request-then s last text left out mid out_now r held (Some ends.Served) h a =
+request-then s last text unread left out mid out_now r held (Some ends.Served) h a =
     (interim h.0 ++ spelled (path_reply true), (exchange r h.0, h.1, h.3, a.0, a.1, refl), Appends-then out mid out_now (interim h.0) (spelled (path_reply true)) h.4 a.2)
-request-then s last text left out mid out_now r held (Some (ends.Refused e)) h a = absurd a
-request-then s last text left out mid out_now r held (Some ends.Truncated) h a = absurd a
-request-then s last text left out mid out_now r held (Some ends.ReadFault) h a = absurd a
-request-then s last text left out mid out_now r held (Some (ends.WriteFault n)) h (inl a) =
+request-then s last text unread left out mid out_now r held (Some (ends.Refused e)) h a = absurd a
+request-then s last text unread left out mid out_now r held (Some ends.Truncated) h a = absurd a
+request-then s last text unread left out mid out_now r held (Some ends.ReadFault) h a = absurd a
+request-then s last text unread left out mid out_now r held (Some (ends.WriteFault n)) h (inl a) =
     let piece = spelled (path_reply (r.close || last)) in
     (interim h.0 ++ take n piece, (interim h.0, piece, inr (inl (exchange r h.0, h.1, h.3, refl, refl)), a.0, refl), Appends-then out mid out_now (interim h.0) (take n piece) h.4 a.1)
-request-then s last text left out mid out_now r held (Some (ends.WriteFault n)) h (inr a) =
+request-then s last text unread left out mid out_now r held (Some (ends.WriteFault n)) h (inr a) =
     (interim h.0 ++ take n (spelled no_memory), (interim h.0, spelled no_memory, inr (inr (inr (interim-or-none h.0, refl))), a.0, refl), Appends-then out mid out_now (interim h.0) (take n (spelled no_memory)) h.4 a.1)
-request-then s last text left out mid out_now r held (Some ends.Memory) h a =
+request-then s last text unread left out mid out_now r held (Some ends.Memory) h a =
     (interim h.0 ++ spelled no_memory, (interim h.0, interim-or-none h.0, refl), Appends-then out mid out_now (interim h.0) (spelled no_memory) h.4 a)
 
-pub turn-request : (s : Settings) (last : Bool) (before left out mid out_now : Option (List ℕ)) (r : Request) (held : List ℕ) (o : Option End)
-    → RequestTells (room_of s) before out (got.Request r) held left mid → AnswerTells r.close last mid o out_now → TurnTells s last before out o left out_now
-turn-request s last None left out mid out_now r held o h a = tt
-turn-request s last (Some text) left out mid out_now r held o h a = request-then s last text left out mid out_now r held o h a
+pub turn-request : (s : Settings) (last : Bool) (before unread left out mid out_now : Option (List ℕ)) (r : Request) (held : List ℕ) (o : Option End)
+    → RequestTells (room_of s) before out (got.Request r) held left mid → AnswerTells r.close last mid o out_now → TurnTells s last before out o unread left out_now
+turn-request s last None unread left out mid out_now r held o h a = tt
+turn-request s last (Some text) unread left out mid out_now r held o h a = request-then s last text unread left out mid out_now r held o h a
 
-refused-then : (s : Settings) (last : Bool) (text : List ℕ) (left out mid out_now : Option (List ℕ)) (fault : WireFault) (held : List ℕ) (end : End)
-    → RequestTells (room_of s) (Some text) out (got.Refused fault) held left mid → RefusalTells s fault mid end out_now → TurnOf s last text out (Some end) left out_now
-refused-then s last text left out mid out_now fault held ends.Ended h a = absurd a
-refused-then s last text left out mid out_now fault held ends.Asked h a = absurd a
-refused-then s last text left out mid out_now fault held ends.Served h a = absurd a
-refused-then s last text left out mid out_now fault held (ends.Refused e) h a = (
+refused-then : (s : Settings) (last : Bool) (text : List ℕ) (unread left out mid out_now : Option (List ℕ)) (fault : WireFault) (held : List ℕ) (end : End)
+    → RequestTells (room_of s) (Some text) out (got.Refused fault) held left mid → RefusalTells s fault mid end out_now → TurnOf s last text out (Some end) unread left out_now
+refused-then s last text unread left out mid out_now fault held ends.Ended h a = absurd a
+refused-then s last text unread left out mid out_now fault held ends.Asked h a = absurd a
+refused-then s last text unread left out mid out_now fault held ends.Served h a = absurd a
+refused-then s last text unread left out mid out_now fault held (ends.Refused e) h a = (
   interim h.0 ++ spelled (wire_reply s.body e),
   (h.0, subst (λ x. Next (room_of s) text (Refused x h.0)) (sym a.0) h.1, refl),
   Appends-then out mid out_now (interim h.0) (spelled (wire_reply s.body e)) h.2 (subst (λ x. Appends mid out_now (spelled (wire_reply s.body x))) (sym a.0) a.1),
 )
-refused-then s last text left out mid out_now fault held ends.Truncated h a = absurd a
-refused-then s last text left out mid out_now fault held ends.ReadFault h a = absurd a
-refused-then s last text left out mid out_now fault held (ends.WriteFault n) h (inl a) =
+refused-then s last text unread left out mid out_now fault held ends.Truncated h a = absurd a
+refused-then s last text unread left out mid out_now fault held ends.ReadFault h a = absurd a
+refused-then s last text unread left out mid out_now fault held (ends.WriteFault n) h (inl a) =
     let piece = spelled (wire_reply s.body fault) in
     (interim h.0 ++ take n piece, (interim h.0, piece, inr (inr (inl (fault, h.0, h.1, refl, refl))), a.0, refl), Appends-then out mid out_now (interim h.0) (take n piece) h.2 a.1)
-refused-then s last text left out mid out_now fault held (ends.WriteFault n) h (inr a) =
+refused-then s last text unread left out mid out_now fault held (ends.WriteFault n) h (inr a) =
     (interim h.0 ++ take n (spelled no_memory), (interim h.0, spelled no_memory, inr (inr (inr (interim-or-none h.0, refl))), a.0, refl), Appends-then out mid out_now (interim h.0) (take n (spelled no_memory)) h.2 a.1)
-refused-then s last text left out mid out_now fault held ends.Memory h a =
+refused-then s last text unread left out mid out_now fault held ends.Memory h a =
     (interim h.0 ++ spelled no_memory, (interim h.0, interim-or-none h.0, refl), Appends-then out mid out_now (interim h.0) (spelled no_memory) h.2 a)
 
-pub turn-refused : (s : Settings) (last : Bool) (before left out mid out_now : Option (List ℕ)) (fault : WireFault) (held : List ℕ) (end : End)
-    → RequestTells (room_of s) before out (got.Refused fault) held left mid → RefusalTells s fault mid end out_now → TurnTells s last before out (Some end) left out_now
-turn-refused s last None left out mid out_now fault held end h a = tt
-turn-refused s last (Some text) left out mid out_now fault held end h a = refused-then s last text left out mid out_now fault held end h a
+pub turn-refused : (s : Settings) (last : Bool) (before unread left out mid out_now : Option (List ℕ)) (fault : WireFault) (held : List ℕ) (end : End)
+    → RequestTells (room_of s) before out (got.Refused fault) held left mid → RefusalTells s fault mid end out_now → TurnTells s last before out (Some end) unread left out_now
+turn-refused s last None unread left out mid out_now fault held end h a = tt
+turn-refused s last (Some text) unread left out mid out_now fault held end h a = refused-then s last text unread left out mid out_now fault held end h a
 
-pub turn-ended : (s : Settings) (last : Bool) (before left out out_now : Option (List ℕ)) (held : List ℕ) → RequestTells (room_of s) before out got.Ended held left out_now → TurnTells s last before out (Some ends.Ended) left out_now
-turn-ended s last None left out out_now held h = tt
-turn-ended s last (Some text) left out out_now held h = ([], (h.0, refl), adds-nothing out out_now h.1)
+pub turn-ended : (s : Settings) (last : Bool) (before unread left out out_now : Option (List ℕ)) (held : List ℕ) → RequestTells (room_of s) before out got.Ended held left out_now → TurnTells s last before out (Some ends.Ended) unread left out_now
+turn-ended s last None unread left out out_now held h = tt
+turn-ended s last (Some text) unread left out out_now held h = ([], (h.0, refl), adds-nothing out out_now h.1)
 
-pub turn-truncated : (s : Settings) (last : Bool) (before left out out_now : Option (List ℕ)) (held : List ℕ) → RequestTells (room_of s) before out got.Truncated held left out_now → TurnTells s last before out (Some ends.Truncated) left out_now
-turn-truncated s last None left out out_now held h = tt
-turn-truncated s last (Some text) left out out_now held h = (interim h.0, (h.0, h.1, refl), h.2)
+pub turn-truncated : (s : Settings) (last : Bool) (before unread left out out_now : Option (List ℕ)) (held : List ℕ) → RequestTells (room_of s) before out got.Truncated held left out_now → TurnTells s last before out (Some ends.Truncated) unread left out_now
+turn-truncated s last None unread left out out_now held h = tt
+turn-truncated s last (Some text) unread left out out_now held h = (interim h.0, (h.0, h.1, refl), h.2)
 
-pub turn-fault : (s : Settings) (last : Bool) (before left out out_now : Option (List ℕ)) (held : List ℕ) → RequestTells (room_of s) before out got.ReadFault held left out_now → TurnTells s last before out (Some ends.ReadFault) left out_now
-turn-fault s last None left out out_now held h = tt
-turn-fault s last (Some text) left out out_now held (inl h) = ([], inl refl, adds-nothing out out_now h.2)
-turn-fault s last (Some text) left out out_now held (inr h) = (interim h.0, inr (h.0, h.1, refl), h.2)
+pub turn-fault : (s : Settings) (last : Bool) (before unread out out_now : Option (List ℕ)) (held : List ℕ) → RequestTells (room_of s) before out got.ReadFault held (prepend_known held unread) out_now
+    → TurnTells s last before out (Some ends.ReadFault) unread (prepend_known held unread) out_now
+turn-fault s last None unread out out_now held h = tt
+turn-fault s last (Some text) unread out out_now held (inl h) = ([], inl ((held, h.0, h.1), refl), adds-nothing out out_now h.2)
+turn-fault s last (Some text) unread out out_now held (inr h) = (interim h.0, inr (h.0, h.1, refl), h.2)
 
-pub turn-cut : (s : Settings) (last : Bool) (before left out out_now : Option (List ℕ)) (n : ℕ) (held : List ℕ) → RequestTells (room_of s) before out (got.WriteFault n) held left out_now → TurnTells s last before out (Some (ends.WriteFault n)) left out_now
-turn-cut s last None left out out_now n held h = tt
-turn-cut s last (Some text) left out out_now n held h = (take n (interim true), ([], interim true, inl (h.0, refl, refl), h.1, refl), h.2)
+pub turn-cut : (s : Settings) (last : Bool) (before unread left out out_now : Option (List ℕ)) (n : ℕ) (held : List ℕ) → RequestTells (room_of s) before out (got.WriteFault n) held left out_now → TurnTells s last before out (Some (ends.WriteFault n)) unread left out_now
+turn-cut s last None unread left out out_now n held h = tt
+turn-cut s last (Some text) unread left out out_now n held h = (take n (interim true), ([], interim true, inl (h.0, refl, refl), h.1, refl), h.2)
 
-failed-then : (s : Settings) (last : Bool) (text : List ℕ) (left out mid out_now : Option (List ℕ)) (before : List ℕ) (end : End) → IsInterim before → Appends out mid before → FailureTells mid end out_now
-    → TurnOf s last text out (Some end) left out_now
-failed-then s last text left out mid out_now before ends.Ended i a f = absurd f
-failed-then s last text left out mid out_now before ends.Asked i a f = absurd f
-failed-then s last text left out mid out_now before ends.Served i a f = absurd f
-failed-then s last text left out mid out_now before (ends.Refused e) i a f = absurd f
-failed-then s last text left out mid out_now before ends.Truncated i a f = absurd f
-failed-then s last text left out mid out_now before ends.ReadFault i a f = absurd f
-failed-then s last text left out mid out_now before (ends.WriteFault n) i a f =
+failed-then : (s : Settings) (last : Bool) (text : List ℕ) (unread left out mid out_now : Option (List ℕ)) (before : List ℕ) (end : End) → IsInterim before → Appends out mid before → FailureTells mid end out_now
+    → TurnOf s last text out (Some end) unread left out_now
+failed-then s last text unread left out mid out_now before ends.Ended i a f = absurd f
+failed-then s last text unread left out mid out_now before ends.Asked i a f = absurd f
+failed-then s last text unread left out mid out_now before ends.Served i a f = absurd f
+failed-then s last text unread left out mid out_now before (ends.Refused e) i a f = absurd f
+failed-then s last text unread left out mid out_now before ends.Truncated i a f = absurd f
+failed-then s last text unread left out mid out_now before ends.ReadFault i a f = absurd f
+failed-then s last text unread left out mid out_now before (ends.WriteFault n) i a f =
     (before ++ take n (spelled no_memory), (before, spelled no_memory, inr (inr (inr (i, refl))), f.0, refl), Appends-then out mid out_now before (take n (spelled no_memory)) a f.1)
-failed-then s last text left out mid out_now before ends.Memory i a f =
+failed-then s last text unread left out mid out_now before ends.Memory i a f =
     (before ++ spelled no_memory, (before, i, refl), Appends-then out mid out_now before (spelled no_memory) a f)
 
-pub turn-failed : (s : Settings) (last : Bool) (before left out mid out_now : Option (List ℕ)) (held : List ℕ) (end : End) → RequestTells (room_of s) before out got.Memory held left mid → FailureTells mid end out_now
-    → TurnTells s last before out (Some end) left out_now
-turn-failed s last None left out mid out_now held end h f = tt
-turn-failed s last (Some text) left out mid out_now held end (inl h) f = failed-then s last text left out mid out_now [] end (inl refl) (adds-nothing out mid h) f
-turn-failed s last (Some text) left out mid out_now held end (inr h) f = failed-then s last text left out mid out_now (interim h.0) end (interim-or-none h.0) h.2 f
+pub turn-failed : (s : Settings) (last : Bool) (before unread left out mid out_now : Option (List ℕ)) (held : List ℕ) (end : End) → RequestTells (room_of s) before out got.Memory held left mid → FailureTells mid end out_now
+    → TurnTells s last before out (Some end) unread left out_now
+turn-failed s last None unread left out mid out_now held end h f = tt
+turn-failed s last (Some text) unread left out mid out_now held end (inl h) f = failed-then s last text unread left out mid out_now [] end (inl refl) (adds-nothing out mid h) f
+turn-failed s last (Some text) unread left out mid out_now held end (inr h) f = failed-then s last text unread left out mid out_now (interim h.0) end (interim-or-none h.0) h.2 f
 
-pub failed-turn : (s : Settings) (last : Bool) (text : List ℕ) (left out out_now : Option (List ℕ)) (end : End) → FailureTells out end out_now → TurnTells s last (Some text) out (Some end) left out_now
-failed-turn s last text left out out_now end f = failed-then s last text left out out out_now [] end (inl refl) (adds-nothing out out refl) f
+pub failed-turn : (s : Settings) (last : Bool) (text : List ℕ) (unread left out out_now : Option (List ℕ)) (end : End) → FailureTells out end out_now → TurnTells s last (Some text) out (Some end) unread left out_now
+failed-turn s last text unread left out out_now end f = failed-then s last text unread left out out out_now [] end (inl refl) (adds-nothing out out refl) f

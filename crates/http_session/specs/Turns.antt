@@ -51,17 +51,17 @@ AnswerTells close last out (Some (ends.WriteFault n)) out_now =
     Cuts out n (spelled (path_reply (close || last))) out_now ⊎ Cuts out n (spelled no_memory) out_now
 AnswerTells close last out (Some ends.Memory) out_now = Appends out out_now (spelled no_memory)
 
--- a turn answers what the text asks, or ends the session
-abbrev pub TurnOf : Settings → Bool → List ℕ → Option (List ℕ) → Option End → Option (List ℕ) → Option (List ℕ) → Type 0
-TurnOf s last text out None left out_now =
+-- a turn answers what the text asks, or ends the session; `unread` is what the source has left, and `left` that with what is held
+abbrev pub TurnOf : Settings → Bool → List ℕ → Option (List ℕ) → Option End → Option (List ℕ) → Option (List ℕ) → Option (List ℕ) → Type 0
+TurnOf s last text out None unread left out_now =
     (x : Exchange) × (rest : List ℕ) × (left ≡ Some rest) × Next (room_of s) text (Asked x.request x.waits rest)
     × (x.request.close ≡ false) × (last ≡ false) × Appends out out_now (answered x)
-TurnOf s last text out (Some end) left out_now = (tail : List ℕ) × EndsWith s last text end tail × Appends out out_now tail
+TurnOf s last text out (Some end) unread left out_now = (tail : List ℕ) × EndsWith s last text unread end tail × Appends out out_now tail
 
 -- the same where the source tells its bytes
-abbrev pub TurnTells : Settings → Bool → Option (List ℕ) → Option (List ℕ) → Option End → Option (List ℕ) → Option (List ℕ) → Type 0
-TurnTells s last None out end left out_now = Unit {0}
-TurnTells s last (Some text) out end left out_now = TurnOf s last text out end left out_now
+abbrev pub TurnTells : Settings → Bool → Option (List ℕ) → Option (List ℕ) → Option End → Option (List ℕ) → Option (List ℕ) → Option (List ℕ) → Type 0
+TurnTells s last None out end unread left out_now = Unit {0}
+TurnTells s last (Some text) out end unread left out_now = TurnOf s last text out end unread left out_now
 
 -- the requests that were answered so far, and the text behind them
 pub record Answered (s : Settings) (n : ℕ) (text : List ℕ) (out : Option (List ℕ)) (rest : List ℕ) (out_now : Option (List ℕ)) : Type 0 where

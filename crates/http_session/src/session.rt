@@ -23,7 +23,7 @@ pub fn serve_session<S: Source, K: Sink>(
     requires { 1 ≤ settings.now.requests }
 
     // Where the source tells its bytes, the session is the one over all of them.
-    ensures tells { SessionTells settings.now (S.left source.old) (K.held sink.old) result.end (K.held sink.new) }
+    ensures tells { SessionTells settings.now (S.left source.old) (S.left source.new) (K.held sink.old) result.end (K.held sink.new) }
 
     // A fault comes only where one rose in this call.
     ensures read_later { S.faults source.old ≤ S.faults source.new }
@@ -47,7 +47,7 @@ fn serve_all<S: Source, K: Sink>(
 ) -> End
     requires some { 1 ≤ settings.now.requests }
     requires held { held.old ≡ [] }
-    ensures tells { SessionTells settings.now (S.left source.old) (K.held sink.old) result (K.held sink.new) }
+    ensures tells { SessionTells settings.now (S.left source.old) (S.left source.new) (K.held sink.old) result (K.held sink.new) }
     ensures read_later { S.faults source.old ≤ S.faults source.new }
     ensures write_later { K.faults sink.old ≤ K.faults sink.new }
     ensures read_fault { result ≡ ReadFault → Rose (S.faults source.old) (S.faults source.new) }

@@ -22,7 +22,7 @@ pub(crate) fn turn<S: Source, K: Sink>(
     last: bool,
 ) -> Option<End>
     ensures tells { TurnTells settings.now last (prepend_known held.old (S.left source.old)) (K.held sink.old) result
-        (prepend_known held.new (S.left source.new)) (K.held sink.new) }
+        (S.left source.new) (prepend_known held.new (S.left source.new)) (K.held sink.new) }
     ensures more { result ≡ None → last ≡ false }
     ensures read_later { S.faults source.old ≤ S.faults source.new }
     ensures write_later { K.faults sink.old ≤ K.faults sink.new }

@@ -105,7 +105,7 @@ pub does_check : (c : Command) (limit status : ℕ) (old new held_old held_new :
 does_check c limit status old new held_old held_new sb sn kb kn is a = subst (λ (x : Command). Does x status old new held_old held_new sb sn kb kn) (sym is) a
 
 pub does_replay : (c : Command) (settings : Settings) (status : ℕ) (old new held_old held_new : Option (List ℕ)) (sb sn kb kn : ℕ) → c ≡ Replay settings
-    → Replays settings status old held_old held_new sb sn kb kn → Does c status old new held_old held_new sb sn kb kn
+    → Replays settings status old new held_old held_new sb sn kb kn → Does c status old new held_old held_new sb sn kb kn
 does_replay c settings status old new held_old held_new sb sn kb kn is r = subst (λ (x : Command). Does x status old new held_old held_new sb sn kb kn) (sym is) (inl r)
 
 pub declines_by : (status : ℕ) (text : List ℕ) (held_old held_new : Option (List ℕ)) (kb kn : ℕ) → text ≡ usage

@@ -57,10 +57,10 @@ status_behind (ends.WriteFault n) = 4
 status_behind ends.Memory = 6
 
 -- The input was answered as one session: the status is by its end, and a fault comes only where one rose.
-pub record Replays (settings : Settings) (status : ℕ) (left_old held_old held_new : Option (List ℕ)) (source_before source_now sink_before sink_now : ℕ) : Type 0 where
+pub record Replays (settings : Settings) (status : ℕ) (left_old left_new held_old held_new : Option (List ℕ)) (source_before source_now sink_before sink_now : ℕ) : Type 0 where
   pub end : End
   pub same : status ≡ status_behind end
-  pub session : SessionTells settings left_old held_old end held_new
+  pub session : SessionTells settings left_old left_new held_old end held_new
   pub source_fault : status ≡ 3 → Rose source_before source_now
   pub sink_fault : status ≡ 4 → Rose sink_before sink_now
 
@@ -76,7 +76,7 @@ Does (Ask subject limit) status left_old left_new held_old held_new source_befor
 Does (Check limit) status left_old left_new held_old held_new source_before source_now sink_before sink_now =
     Answers (within limit checked) status left_old left_new held_old held_new source_before source_now sink_before sink_now
 Does (Replay settings) status left_old left_new held_old held_new source_before source_now sink_before sink_now =
-    Replays settings status left_old held_old held_new source_before source_now sink_before sink_now
+    Replays settings status left_old left_new held_old held_new source_before source_now sink_before sink_now
     ⊎ FailsFirst status left_old left_new held_old held_new source_before source_now
 
 -- the output was written, or a front of it

@@ -76,7 +76,7 @@ fn replay<S: Source, K: Sink>(
     sink: &mut K,
 ) -> u8
     requires { 1 ≤ settings.now.requests }
-    ensures { Replays settings.now result (S.left source.old) (K.held sink.old) (K.held sink.new)
+    ensures { Replays settings.now result (S.left source.old) (S.left source.new) (K.held sink.old) (K.held sink.new)
         (S.faults source.old) (S.faults source.new) (K.faults sink.old) (K.faults sink.new) }
 {
     let session = serve_session(alloc, source, sink, settings);

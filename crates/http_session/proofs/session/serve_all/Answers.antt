@@ -11,7 +11,7 @@ requests-preserved g c =
     record {
       some = omega (arith, two);
       so_far = turn-more c.args.settings.now c.requests.left (g.S.Source.left c.args.source.now) (prepend_known c.requests.held (g.S.Source.left c.requests.source))
-          (prepend_known c.turn.new.held (g.S.Source.left c.turn.new.source)) (g.K.Sink.held c.args.sink.now) (g.K.Sink.held c.requests.sink) (g.K.Sink.held c.turn.new.sink)
+          (g.S.Source.left c.turn.new.source) (prepend_known c.turn.new.held (g.S.Source.left c.turn.new.source)) (g.K.Sink.held c.args.sink.now) (g.K.Sink.held c.requests.sink) (g.K.Sink.held c.turn.new.sink)
           c.requests.invariant.some c.requests.invariant.so_far c.in-None.ensures.tells;
       read_later = omega (arith, c.requests.invariant.read_later, c.turn.ensures.read_later);
       write_later = omega (arith, c.requests.invariant.write_later, c.turn.ensures.write_later);
