@@ -38,7 +38,7 @@ pub run-counts : (old new : Caller) (ds : List Done) → Runs old ds new
 run-counts old new [] r = subst (λ (c : Caller). Rises 0 0 0 old c) (sym r) (rises-none old)
 run-counts old new (d ∷ ds) r =
     let both = rises-then old r.0 (busy_of d.sign) (turns_of d.sign) (looks_of d.sign) new (sum_by (λ (d : Done). busy_of d.sign) ds) (sum_by (λ (d : Done). turns_of d.sign) ds) (sum_by (λ (d : Done). looks_of d.sign) ds)
-    r.1.counts (run-counts r.0 new ds r.2) in
+    r.1.replied.counts (run-counts r.0 new ds r.2) in
     record {
       busy_rose = subst (λ (n : ℕ). Raises n old.busy new.busy) (sym (sum_by-cons (λ (d : Done). busy_of d.sign) d ds)) both.busy_rose;
       turns_rose = subst (λ (n : ℕ). Raises n old.turns new.turns) (sym (sum_by-cons (λ (d : Done). turns_of d.sign) d ds)) both.turns_rose;
@@ -61,7 +61,7 @@ more_outs x y z n m p q = omega (arith, p, q)
 pub run-outs : (old new : Caller) (ds : List Done) → old.outs ≤ 18446744073709551615 → Runs old ds new → new.outs ≡ saturating_sum old.outs (sum_by (λ d. out_of d.sign) ds)
 run-outs old new [] le r = let e : new.outs ≡ old.outs = ap (λ (c : Caller). c.outs) r in omega (arith, le, e)
 run-outs old new (d ∷ ds) le r =
-    let first : r.0.outs ≡ min (old.outs + out_of d.sign) 18446744073709551615 = outs_step d.sign old r.0 le r.1.outs in
+    let first : r.0.outs ≡ min (old.outs + out_of d.sign) 18446744073709551615 = outs_step d.sign old r.0 le r.1.replied.outs in
     let within : r.0.outs ≤ 18446744073709551615 = omega (arith, first) in
     more_outs old.outs r.0.outs new.outs (out_of d.sign) (sum_by (λ (d : Done). out_of d.sign) ds) first (run-outs r.0 new ds within r.2)
     ∙ ap (λ (n : ℕ). min (old.outs + n) 18446744073709551615) (sym (sum_by-cons (λ (d : Done). out_of d.sign) d ds))

@@ -32,11 +32,11 @@ runs-push old mid new (x ∷ ds) d r c = (r.0, r.1, runs-push r.0 mid new ds d r
 
 pub runs-goes : (old new : Caller) (ds : List Done) → IsLegal old.front → Runs old ds new → Goes old new
 runs-goes old new [] legal r = subst (λ (x : Caller). Goes old x) (sym r) (goes-refl old legal)
-runs-goes old new (d ∷ ds) legal r = goes-then old r.0 new r.1.goes (runs-goes r.0 new ds r.1.goes.legal r.2)
+runs-goes old new (d ∷ ds) legal r = goes-then old r.0 new r.1.replied.goes (runs-goes r.0 new ds r.1.replied.goes.legal r.2)
 
 pub runs-front : (old new : Caller) (ds : List Done) → Runs old ds new → IsPrefix old.front new.front
 runs-front old new [] r = subst (λ (x : Caller). IsPrefix old.front x.front) (sym r) (front-refl old.front)
-runs-front old new (d ∷ ds) r = front-trans old.front r.0.front new.front r.1.goes.begins (runs-front r.0 new ds r.2)
+runs-front old new (d ∷ ds) r = front-trans old.front r.0.front new.front r.1.replied.goes.begins (runs-front r.0 new ds r.2)
 
 pub runs-last : (old new : Caller) (ds : List Done) → Runs old ds new → length new.front ≡ last_point (length old.front) ds
 runs-last old new [] r = ap (λ (c : Caller). length c.front) r
@@ -64,11 +64,11 @@ at-points : (old new : Caller) (whole : History) (ds : List Done) → IsPrefix n
 at-points old new whole [] f r = tt
 at-points old new whole (d ∷ ds) f r =
     let ahead : IsPrefix r.0.front whole = front-trans r.0.front new.front whole (runs-front r.0 new ds r.2) f in
-    let from : IsPrefix old.front whole = front-trans old.front r.0.front whole r.1.goes.begins ahead in (
-      omega (arith, front-length old.front r.0.front r.1.goes.begins, r.1.point_is),
+    let from : IsPrefix old.front whole = front-trans old.front r.0.front whole r.1.replied.goes.begins ahead in (
+      omega (arith, front-length old.front r.0.front r.1.replied.goes.begins, r.1.point_is),
       omega (arith, front-length r.0.front whole ahead, r.1.point_is),
-      answers-at old.settings old.me old.front r.0.front whole d from ahead r.1.point_is r.1.answers,
-      later-points old.settings r.0.settings old.me r.0.me whole (length r.0.front) d.point ds r.1.goes.settings r.1.goes.me r.1.point_is (at-points r.0 new whole ds f r.2),
+      answers-at old.settings old.me old.front r.0.front whole d from ahead r.1.point_is r.1.replied.answers,
+      later-points old.settings r.0.settings old.me r.0.me whole (length r.0.front) d.point ds r.1.replied.goes.settings r.1.replied.goes.me r.1.point_is (at-points r.0 new whole ds f r.2),
     )
 
 pub run-points : (old new : Caller) (ds : List Done) → Runs old ds new → IsAtPoints old.settings old.me new.front (length old.front) ds

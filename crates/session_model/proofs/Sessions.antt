@@ -107,7 +107,7 @@ run_step s more old mid new text out left out_now points points_now signs signs_
   rest = inl refl;
 }
 run_step s more old mid new text out left out_now points points_now signs signs_now (Failed x) a h p g =
-    record { done = a.done; mid = mid; runs = a.runs; points_are = p ∙ append-nil points ∙ a.points_are; signs_are = g ∙ append-nil signs ∙ a.signs_are; rest = inr (x, h.0, h.1) }
+    record { done = a.done; mid = mid; runs = a.runs; points_are = p ∙ append-nil points ∙ a.points_are; signs_are = g ∙ append-nil signs ∙ a.signs_are; rest = inr (x, h) }
 run_step s more old mid new text out left out_now points points_now signs signs_now Nothing a h p g =
     record { done = a.done; mid = mid; runs = a.runs; points_are = p ∙ append-nil points ∙ a.points_are; signs_are = g ∙ append-nil signs ∙ a.signs_are; rest = inl h }
 

@@ -1,7 +1,8 @@
 -- Which reply a request gets (our own): of the settings, the caller's number, the history at the point before and at the request's point, the request, and the sign.
-use Rattle.std.specs.Prelude.{◌≡◌, ◌⊎◌, ℕ, ◌<◌, ◌≤◌, Bool, List, [], ◌∷◌, ◌++◌, length, Option, Some, None, Result, Ok, Err, ◌+◌}
+use Rattle.std.specs.Prelude.{◌≡◌, ◌⊎◌, ℕ, ◌<◌, ◌≤◌, Bool, List, [], ◌∷◌, ◌++◌, length, take, drop, Option, Some, None, Result, Ok, Err, ◌+◌}
 use mathlib.Core.List.{IsPrefix}
 use Rattle.settings.specs.declared.Settings.{Settings}
+use Rattle.osv_prim.specs.declared.oid.CommitRow.{CommitRow}
 use Rattle.osv_record.specs.Advisories.{Advisory}
 use Rattle.osv_record.specs.Reading.{advisory}
 use Rattle.osv_record.specs.declared.fault.RecordFault.{RecordFault}
@@ -9,21 +10,27 @@ use Rattle.query_json.specs.declared.fault.BatchFault.{BatchFault}
 use Rattle.query_json.specs.declared.fault.QueryFault.{QueryFault}
 use Rattle.query_json.specs.declared.query.Query.{Query}
 use Rattle.query_json.specs.Queries.{query}
+use Rattle.query_json.specs.Batches.{batch}
+use Rattle.fast_export.specs.declared.fault.StreamFault.{StreamFault}
+use Rattle.fast_export.specs.Stream.{stream, answer}
+use Rattle.commit_graph.specs.declared.fault.GraphFault.{GraphFault}
+use Rattle.commit_graph.specs.Extended.{extended}
 use Rattle.history.specs.declared.past.Past.{Past}
 use Rattle.history.specs.declared.past.Past.TheVariants.{Import, Grow, Publish}
 use Rattle.history.specs.Entries.{History, imports, newest, upto_of, weight, entry_weight, own}
+use Rattle.history.specs.Prefixes.{grows, graph}
 use Rattle.http_wire.specs.declared.reply.Reply.{Reply}
 use Rattle.http_wire.specs.declared.request.Request.{Request}
 use Rattle.reply_json.specs.declared.refusal.Refusal.{Refusal}
 use Rattle.reply_json.specs.declared.refusal.Refusal.TheVariants as refusals
-use Rattle.reply_json.specs.Bodies.{entry_body, published_body, building_body}
+use Rattle.reply_json.specs.Bodies.{entry_body, commits_body, published_body, building_body}
 use Rattle.session_model.specs.declared.route.Route.{Route}
 use Rattle.session_model.specs.declared.route.Route.TheVariants as routes
 use Rattle.session_model.specs.declared.sign.Sign.{Sign}
 use Rattle.session_model.specs.declared.sign.Sign.TheVariants as signs
-use Rattle.session_model.specs.Routes.{route_of, id_of}
+use Rattle.session_model.specs.Routes.{route_of, id_of, key_of}
 use Rattle.session_model.specs.Replies.{done_reply, refusal_reply, method_reply}
-use Rattle.session_model.specs.Looks.{least_of, query_reply, vulns_reply}
+use Rattle.session_model.specs.Looks.{least_of, query_reply, batch_reply, vulns_reply}
 
 -- ---- what comes to the caller's own entries between two points
 
@@ -68,7 +75,7 @@ Refuses closes h now refusal sign reply = (sign ≡ signs.Plain) × (now ≡ h) 
 abbrev pub Shows : ℕ → History → History → Reply → Sign → Reply → Type 0
 Shows me h now shown sign reply = (sign ≡ signs.Looked) × AddsNothing me h now × (reply ≡ shown)
 
--- ---- imports
+-- ---- imports and the growth of repositories
 
 -- the advisory is entered, once, at the end
 abbrev pub Enters : Settings → Bool → ℕ → History → History → Past → Reply → Type 0
@@ -84,6 +91,47 @@ ImportAnswers s closes me h now (Err fault) sign reply = Refuses closes h now (r
 ImportAnswers s closes me h now (Ok r) sign reply =
     (sign ≡ signs.Plain) × (Enters s closes me h now (Import me r) reply ⊎ IsFull s closes me h now (Import me r) reply)
 
+-- the commits of a stream, where at most so many may come
+abbrev pub commits_in : ℕ → List ℕ → Result (List CommitRow) StreamFault
+commits_in most text = answer (length text) (stream text most)
+
+-- The commits joined the repository's graph, and those that it lacked are entered, once, at the end.
+abbrev pub GrowsBy : Settings → Bool → ℕ → History → History → List ℕ → List CommitRow → Reply → Type 0
+GrowsBy s closes me h now key rows reply =
+    (place : ℕ) × AddsEntry me (Grow me key (drop (length (graph (take place now) key)) (graph now key))) place h now
+    × (extended (graph (take place now) key) s.commits rows ≡ Ok (graph now key))
+    × (weight now ≤ s.weight) × (reply ≡ done_reply closes (commits_body place (length (graph now key))))
+
+-- there is no room for those that it lacks
+abbrev pub LacksRoom : Settings → Bool → ℕ → History → History → List ℕ → List CommitRow → Reply → Type 0
+LacksRoom s closes me h now key rows reply =
+    (whole : List CommitRow) × (extended (graph now key) s.commits rows ≡ Ok whole) × IsFull s closes me h now (Grow me key (drop (length (graph now key)) whole)) reply
+
+-- some commit doesn't fit the graph
+abbrev pub IsMisfit : Settings → Bool → ℕ → History → History → List ℕ → List CommitRow → Reply → Type 0
+IsMisfit s closes me h now key rows reply =
+    (fault : GraphFault) × (extended (graph now key) s.commits rows ≡ Err fault) × AddsNothing me h now × (reply ≡ refusal_reply closes (refusals.BadGraph fault))
+
+-- others grew the repository after it was looked at
+abbrev pub HasMoved : Bool → ℕ → History → History → List ℕ → ℕ → Reply → Type 0
+HasMoved closes me h now key seen reply =
+    AddsNothing me h now × (grows h key ≤ seen) × (seen < grows now key) × (reply ≡ refusal_reply closes (refusals.RepoMoved seen (grows now key)))
+
+abbrev pub CommitsAnswer : Settings → Bool → ℕ → History → History → List ℕ → List CommitRow → Sign → Reply → Type 0
+CommitsAnswer s closes me h now key rows signs.Plain reply = GrowsBy s closes me h now key rows reply ⊎ LacksRoom s closes me h now key rows reply
+CommitsAnswer s closes me h now key rows signs.Looked reply = IsMisfit s closes me h now key rows reply
+CommitsAnswer s closes me h now key rows (signs.Moved seen) reply = HasMoved closes me h now key seen reply
+CommitsAnswer s closes me h now key rows (signs.Published snapshot upto) reply = ⊥
+CommitsAnswer s closes me h now key rows (signs.Building out took) reply = ⊥
+
+abbrev pub StreamAnswers : Settings → Bool → ℕ → History → History → List ℕ → Result (List CommitRow) StreamFault → Sign → Reply → Type 0
+StreamAnswers s closes me h now key (Err fault) sign reply = Refuses closes h now (refusals.BadStream fault) sign reply
+StreamAnswers s closes me h now key (Ok rows) sign reply = CommitsAnswer s closes me h now key rows sign reply
+
+abbrev pub RepoAnswers : Settings → Bool → ℕ → History → History → Option (List ℕ) → List ℕ → Sign → Reply → Type 0
+RepoAnswers s closes me h now None body sign reply = Refuses closes h now refusals.RepoMissing sign reply
+RepoAnswers s closes me h now (Some key) body sign reply = StreamAnswers s closes me h now key (commits_in s.commits body) sign reply
+
 -- ---- queries
 
 -- a query that doesn't stand in a batch
@@ -94,6 +142,11 @@ abbrev pub QueryAnswers : Settings → Bool → ℕ → History → History → 
 QueryAnswers s closes me h now None asked sign reply = Refuses closes h now refusals.BadMinSnapshot sign reply
 QueryAnswers s closes me h now (Some least) (Err fault) sign reply = Refuses closes h now (refusals.BadQuery (alone fault)) sign reply
 QueryAnswers s closes me h now (Some least) (Ok q) sign reply = Shows me h now (query_reply s.keep s.page closes now least q) sign reply
+
+abbrev pub BatchAnswers : Settings → Bool → ℕ → History → History → Option ℕ → Result (List Query) BatchFault → Sign → Reply → Type 0
+BatchAnswers s closes me h now None asked sign reply = Refuses closes h now refusals.BadMinSnapshot sign reply
+BatchAnswers s closes me h now (Some least) (Err fault) sign reply = Refuses closes h now (refusals.BadQuery fault) sign reply
+BatchAnswers s closes me h now (Some least) (Ok queries) sign reply = Shows me h now (batch_reply s.keep s.page closes now least queries) sign reply
 
 abbrev pub VulnsAnswers : Bool → ℕ → History → History → Option ℕ → List ℕ → Sign → Reply → Type 0
 VulnsAnswers closes me h now None id sign reply = Refuses closes h now refusals.BadMinSnapshot sign reply
@@ -126,8 +179,10 @@ abbrev pub AnswersAt : Settings → Bool → ℕ → History → History → Req
 AnswersAt s closes me h now q routes.NoPath sign reply = Refuses closes h now refusals.NoSuchPath sign reply
 AnswersAt s closes me h now q (routes.WrongMethod allow) sign reply = (sign ≡ signs.Plain) × (now ≡ h) × (reply ≡ method_reply closes allow)
 AnswersAt s closes me h now q routes.Query sign reply = QueryAnswers s closes me h now (least_of q.min) (query q.body) sign reply
+AnswersAt s closes me h now q routes.QueryBatch sign reply = BatchAnswers s closes me h now (least_of q.min) (batch q.body) sign reply
 AnswersAt s closes me h now q routes.Vulns sign reply = VulnsAnswers closes me h now (least_of q.min) (id_of q.path) sign reply
 AnswersAt s closes me h now q routes.Import sign reply = ImportAnswers s closes me h now (advisory q.body) sign reply
+AnswersAt s closes me h now q routes.Repo sign reply = RepoAnswers s closes me h now (key_of q.query) q.body sign reply
 AnswersAt s closes me h now q routes.Publish sign reply = PublishAnswers closes me h now sign reply
 
 -- the reply to a request
@@ -139,9 +194,8 @@ abbrev pub LeavesAt : ℕ → History → History → Route → Type 0
 LeavesAt me h now routes.NoPath = AddsNothing me h now
 LeavesAt me h now (routes.WrongMethod allow) = AddsNothing me h now
 LeavesAt me h now routes.Query = AddsNothing me h now
+LeavesAt me h now routes.QueryBatch = AddsNothing me h now
 LeavesAt me h now routes.Vulns = AddsNothing me h now
 LeavesAt me h now routes.Import = AddsNothing me h now
+LeavesAt me h now routes.Repo = AddsNothing me h now
 LeavesAt me h now routes.Publish = PublishesFew me h now
-
-abbrev pub Leaves : ℕ → History → History → Request → Type 0
-Leaves me h now q = LeavesAt me h now (route_of q)

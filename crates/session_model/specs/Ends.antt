@@ -14,9 +14,8 @@ use Rattle.http_wire.specs.Wholes.{StopsBehindHead}
 use Rattle.session_model.specs.declared.end.End.{End}
 use Rattle.session_model.specs.declared.end.End.TheVariants as ends
 use Rattle.session_model.specs.declared.sign.Sign.{Sign}
-use Rattle.session_model.specs.Answers.{Leaves}
 use Rattle.session_model.specs.Replies.{wire_reply}
-use Rattle.session_model.specs.Runs.{Done, Goes, Carries}
+use Rattle.session_model.specs.Runs.{Done, Carries, Unanswered}
 
 -- what came of a request
 pub data Came : Type 0 where
@@ -31,7 +30,7 @@ pub data Came : Type 0 where
 
 abbrev pub Happens : Caller → Caller → Came → Type 0
 Happens old new (Carried d) = Carries old new d
-Happens old new (Failed x) = Goes old new × Leaves old.me old.front new.front x.request
+Happens old new (Failed x) = Unanswered old new x.request
 Happens old new Nothing = new ≡ old
 
 -- the point of a request that was carried out

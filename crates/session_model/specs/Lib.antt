@@ -3,6 +3,7 @@ pub mod Replies
 pub mod Looks
 pub mod Answers
 pub mod Counts
+pub mod Alone
 pub mod Runs
 pub mod Owned
 pub mod Ends

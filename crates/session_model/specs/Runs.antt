@@ -6,9 +6,13 @@ use Rattle.history.specs.Entries.{History}
 use Rattle.history.specs.Legality.{IsLegal}
 use Rattle.book_model.specs.Desk.{Caller}
 use Rattle.http_wire.specs.declared.reply.Reply.{Reply}
+use Rattle.http_wire.specs.declared.request.Request.{Request}
 use Rattle.http_wire.specs.Series.{Exchange}
+use Rattle.session_model.specs.declared.route.Route.{Route}
 use Rattle.session_model.specs.declared.sign.Sign.{Sign}
-use Rattle.session_model.specs.Answers.{Answers}
+use Rattle.session_model.specs.Routes.{route_of}
+use Rattle.session_model.specs.Alone.{IsAlone, StaysApart, AnswersAlone, LeavesAlone}
+use Rattle.session_model.specs.Answers.{Answers, AnswersAt, LeavesAt}
 use Rattle.session_model.specs.Counts.{Counts, OutsAre}
 
 -- a request that was carried out, whether the connection closes behind it, its point, its sign and its reply
@@ -27,13 +31,32 @@ pub record Goes (old new : Caller) : Type 0 where
   pub begins : IsPrefix old.front new.front
   pub legal : IsLegal new.front
 
+-- a request that leads there was answered between these two moments of the caller
+pub record RepliedAt (old new : Caller) (closes : Bool) (q : Request) (route : Route) (sign : Sign) (reply : Reply) : Type 0 where
+  pub goes : Goes old new
+  pub answers : AnswersAt old.settings closes old.me old.front new.front q route sign reply
+  pub counts : Counts sign old new
+  pub outs : OutsAre sign old new
+  pub apart : StaysApart old new
+  pub alone : IsAlone old → AnswersAlone old new sign route
+
+abbrev pub Replied : Caller → Caller → Bool → Request → Sign → Reply → Type 0
+Replied old new closes q sign reply = RepliedAt old new closes q (route_of q) sign reply
+
+-- there was no memory for a request that leads there
+pub record UnansweredAt (old new : Caller) (route : Route) : Type 0 where
+  pub goes : Goes old new
+  pub leaves : LeavesAt old.me old.front new.front route
+  pub apart : StaysApart old new
+  pub alone : IsAlone old → LeavesAlone old.me old.front new.front route
+
+abbrev pub Unanswered : Caller → Caller → Request → Type 0
+Unanswered old new q = UnansweredAt old new (route_of q)
+
 -- the request was carried out between these two moments of the caller
 pub record Carries (old new : Caller) (d : Done) : Type 0 where
-  pub goes : Goes old new
   pub point_is : d.point ≡ length new.front
-  pub answers : Answers old.settings d.closes old.me old.front new.front d.asked.request d.sign d.reply
-  pub counts : Counts d.sign old new
-  pub outs : OutsAre d.sign old new
+  pub replied : Replied old new d.closes d.asked.request d.sign d.reply
 
 -- these requests were carried out, one after another
 abbrev pub Runs : Caller → List Done → Caller → Type 0

@@ -9,8 +9,7 @@ use Rattle.http_wire.specs.Series.{Exchange, Asks}
 use Rattle.session_model.specs.declared.end.End.{End}
 use Rattle.session_model.specs.declared.end.End.TheVariants as ends
 use Rattle.session_model.specs.declared.sign.Sign.{Sign}
-use Rattle.session_model.specs.Answers.{Leaves}
-use Rattle.session_model.specs.Runs.{Done, Goes, Runs}
+use Rattle.session_model.specs.Runs.{Done, Runs, Unanswered}
 use Rattle.session_model.specs.Ends.{room_of, Turn}
 
 -- the connection stays open behind the request
@@ -57,7 +56,7 @@ pub record IsRun (old new : Caller) (points : List ℕ) (signs : List Sign) : Ty
   pub runs : Runs old done mid
   pub points_are : points ≡ map (λ d. d.point) done
   pub signs_are : signs ≡ map (λ d. d.sign) done
-  pub rest : (new ≡ mid) ⊎ ((x : Exchange) × Goes mid new × Leaves mid.me mid.front new.front x.request)
+  pub rest : (new ≡ mid) ⊎ ((x : Exchange) × Unanswered mid new x.request)
 
 -- the sink failed
 abbrev pub IsWriteFault : End → Type 0

@@ -5,6 +5,7 @@ ghost use Rattle.std.specs.List.{sum_by};
 ghost use Rattle.settings.specs.declared.Settings.{Settings};
 ghost use Rattle.history.specs.Legality.{IsLegal};
 ghost use Rattle.book_model.specs.Desk.{Caller, saturating_sum};
+ghost use Rattle.session_model.specs.Alone.{IsAlone, StaysApart};
 ghost use Rattle.session_model.specs.Counts.{Rises, busy_of, turns_of, looks_of, out_of};
 ghost use Rattle.session_model.specs.Owned.{OwnEntries};
 ghost use Rattle.session_model.specs.Runs.{Done, Goes, Runs, IsAtPoints, last_point};
@@ -35,6 +36,14 @@ pub fn signs_are_counted()
 /// point before on and below its own; of all others none.
 pub fn each_entry_is_of_one_request()
     ensures { (old new : Caller) (done : List Done) → Runs old done new → OwnEntries old new done }
+{}
+
+/// Where nobody else acts on the caller's book, no entry of others comes, a caller that has no job has none
+/// at the end, and one that is alone is so at the end.
+pub fn a_caller_alone_stays_so()
+    ensures run { (old new : Caller) (done : List Done) → Runs old done new → StaysApart old new }
+    ensures alone { (old new : Caller) (done : List Done) → IsAlone old → Runs old done new → IsAlone new }
+    ensures session { (old new : Caller) (points : List ℕ) (signs : List Sign) → IsLegal old.front → IsRun old new points signs → StaysApart old new }
 {}
 
 /// A session is such a run to its desk, behind which at most one request found no memory.

@@ -9,10 +9,14 @@ pub enum Route {
     WrongMethod(Allow),
     /// `POST /v1/query`
     Query,
+    /// `POST /v1/querybatch`
+    QueryBatch,
     /// `GET /v1/vulns/{id}`
     Vulns,
     /// `POST /x/import`
     Import,
+    /// `POST /x/repo?url={url}`
+    Repo,
     /// `POST /x/publish`
     Publish,
 }
