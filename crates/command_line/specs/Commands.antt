@@ -18,7 +18,7 @@ use Rattle.command_line.specs.declared.command.Command.TheVariants as of
 use Rattle.command_line.specs.declared.table.CommandName.{CommandName}
 use Rattle.command_line.specs.declared.table.CommandName.TheVariants.{Ask, Check, Replay}
 use Rattle.command_line.specs.declared.table.OptionName.{OptionName}
-use Rattle.command_line.specs.declared.table.OptionName.TheVariants.{Input, Body, Requests}
+use Rattle.command_line.specs.declared.table.OptionName.TheVariants.{Input, Keep, Page, Weight, Body, Requests}
 use Rattle.command_line.specs.declared.table.Takes.{Takes}
 use Rattle.command_line.specs.declared.table.Takes.TheVariants.{Number}
 use Rattle.command_line.specs.Table as table
@@ -52,8 +52,9 @@ number_of o = number_by (option_row o)
 -- the settings, where those that no option says are the defaults
 abbrev pub settings_of : List Row → Option Settings
 settings_of rows =
-    option_and_then (λ body. option_map (λ requests. record default_settings { body = body; requests = requests })
-    (number_of Requests rows)) (number_of Body rows)
+    option_and_then (λ keep. option_and_then (λ page. option_and_then (λ weight. option_and_then (λ body. option_map (λ requests.
+    record default_settings { keep = keep; page = page; weight = weight; body = body; requests = requests })
+    (number_of Requests rows)) (number_of Body rows)) (number_of Weight rows)) (number_of Page rows)) (number_of Keep rows)
 
 -- ---- operands
 
@@ -105,7 +106,7 @@ ask_of rows = option_and_then (λ input. option_map (λ subject. of.Ask subject 
 abbrev pub check_of : List Row → Option Command
 check_of rows = option_and_then (λ input. if is_bare (operands rows) then Some (of.Check input) else None) (number_of Input rows)
 
--- [--body N] [--requests N]
+-- [--keep N] [--page N] [--weight N] [--body N] [--requests N]
 abbrev pub replay_of : List Row → Option Command
 replay_of rows = option_and_then (λ settings. if is_bare (operands rows) then Some (of.Replay settings) else None) (settings_of rows)
 

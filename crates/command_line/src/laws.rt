@@ -14,8 +14,9 @@ pub fn words_that_are_commands()
     ensures behind_two_dashes { command (codes "ask" ∷ codes "--input=200" ∷ codes "npm" ∷ codes "p" ∷ codes "--" ∷ codes "-1" ∷ [])
         ≡ Some (Ask (Package (record { ecosystem = codes "npm"; name = codes "p" }) (Some (codes "-1"))) 200) }
     ensures in_two_words { command (codes "check" ∷ codes "--input" ∷ codes "7" ∷ []) ≡ Some (Check 7) }
-    ensures all_options { command (codes "replay" ∷ codes "--requests=2" ∷ codes "--body" ∷ codes "1" ∷ [])
-        ≡ Some (Replay (record default_settings { body = 1; requests = 2 })) }
+    ensures no_options { command (codes "replay" ∷ []) ≡ Some (Replay default_settings) }
+    ensures all_options { command (codes "replay" ∷ codes "--requests=2" ∷ codes "--body" ∷ codes "1" ∷ codes "--weight=64" ∷ codes "--page" ∷ codes "2" ∷ codes "--keep=1" ∷ [])
+        ≡ Some (Replay (record default_settings { keep = 1; page = 2; weight = 64; body = 1; requests = 2 })) }
 {}
 
 /// An option stands once, with a value in its range, at a command that takes it.
@@ -23,6 +24,7 @@ pub fn words_that_are_none()
     ensures twice { command (codes "ask" ∷ codes "--input" ∷ codes "5" ∷ codes "--input" ∷ codes "5" ∷ codes "npm" ∷ codes "p" ∷ []) ≡ None }
     ensures without_value { command (codes "check" ∷ codes "--input" ∷ []) ≡ None }
     ensures below_its_range { command (codes "replay" ∷ codes "--body" ∷ codes "0" ∷ []) ≡ None }
+    ensures below_its_least { command (codes "replay" ∷ codes "--weight" ∷ codes "63" ∷ []) ≡ None }
     ensures above_its_range { command (codes "replay" ∷ codes "--requests=1000001" ∷ []) ≡ None }
     ensures of_another_command { command (codes "replay" ∷ codes "--input=5" ∷ []) ≡ None }
     ensures an_operand { command (codes "check" ∷ codes "npm" ∷ []) ≡ None }

@@ -2,13 +2,18 @@ ghost use Rattle.std.specs.Prelude.{◌≡◌};
 ghost use Rattle.command_line.specs.declared.table.Takes.TheVariants.{Number};
 ghost use Rattle.command_line.specs.Table.{command_named, option_row, options_of, row_in};
 
-use settings::{MAX_BODY_BYTES, MAX_INPUT_BYTES, MAX_REQUESTS};
+use settings::{
+    MAX_BODY_BYTES, MAX_INPUT_BYTES, MAX_KEEP, MAX_PAGE, MAX_REQUESTS, MAX_WEIGHT, MIN_WEIGHT,
+};
 
 /// An option.
 #[derive(Clone, Copy, Debug, PartialEq, Eq)]
 pub enum OptionName {
     Commit,
     Input,
+    Keep,
+    Page,
+    Weight,
     Body,
     Requests,
 }
@@ -43,6 +48,9 @@ pub fn option_row(option: OptionName) -> OptionRow
     match option {
         OptionName::Commit => row("commit", Takes::Text),
         OptionName::Input => row("input", number(1, MAX_INPUT_BYTES, MAX_INPUT_BYTES)),
+        OptionName::Keep => row("keep", number(1, MAX_KEEP as u64, 8)),
+        OptionName::Page => row("page", number(1, MAX_PAGE as u64, 100)),
+        OptionName::Weight => row("weight", number(MIN_WEIGHT, MAX_WEIGHT, 1_073_741_824)),
         OptionName::Body => row("body", number(1, MAX_BODY_BYTES, MAX_BODY_BYTES)),
         OptionName::Requests => row("requests", number(1, MAX_REQUESTS, MAX_REQUESTS)),
     }
@@ -68,7 +76,13 @@ static ASK: [OptionName; 2] = [OptionName::Input, OptionName::Commit];
 
 static CHECK: [OptionName; 1] = [OptionName::Input];
 
-static REPLAY: [OptionName; 2] = [OptionName::Body, OptionName::Requests];
+static REPLAY: [OptionName; 5] = [
+    OptionName::Keep,
+    OptionName::Page,
+    OptionName::Weight,
+    OptionName::Body,
+    OptionName::Requests,
+];
 
 /// The options that a command takes. No two of them may have one spelling.
 pub fn options_of(command: CommandName) -> &'static [OptionName]

@@ -10,7 +10,7 @@ const COMMANDS: [(&[&str], char); 5] = [
     (&["ask", "npm", "p", "1.0"], 'a'),
     (&["ask", "--commit", HEAD, "--input=5", "npm", "p"], 'a'),
     (&["check", "--input", "5"], 'c'),
-    (&["replay", "--body=1", "--requests", "2"], 'r'),
+    (&["replay", "--body=1", "--requests", "2", "--keep=1"], 'r'),
     (&["replay", "now"], 'n'),
 ];
 

@@ -84,11 +84,17 @@ fn settings_of(matches: &ArgMatches<'_>) -> Option<Settings>
     ensures range { IfSome result AreInRange }
     ensures value { result ≡ settings_of (rows_of (found_of matches.now)) }
 {
+    let keep = number_of(matches, OptionName::Keep)?;
+    let page = number_of(matches, OptionName::Page)?;
+    let weight = number_of(matches, OptionName::Weight)?;
     let body = number_of(matches, OptionName::Body)?;
     let requests = number_of(matches, OptionName::Requests)?;
     Some(Settings {
+        weight,
         body,
         requests,
+        keep: keep as u32,
+        page: page as u32,
         ..Settings::default()
     })
 }
