@@ -1,0 +1,248 @@
+-- A publication, turn by turn.
+use Rattle.std.proofs.Common.{◌≡◌, ◌⊎◌, inl, inr, ℕ, ◌+◌, ◌<◌, ◌≤◌, min, List, [], ◌∷◌, ◌++◌, length, refl, sym, ap, subst, ◌∙◌, append_assoc, arith, length-append}
+use mathlib.Core.List.{IsPrefix}
+use Rattle.std.proofs.lemmas.List.{append-nil}
+use Rattle.history.specs.declared.past.Past.{Past}
+use Rattle.history.specs.declared.past.Past.TheVariants.{Publish}
+use Rattle.history.specs.Entries.{History, imports, own, newest}
+use Rattle.history.specs.Legality.{Marks, marks, marked, start, ArePublishedFrom, IsLegal}
+use Rattle.history.proofs.Entries.{Grows, marks_grow, marks_from-append, count_from, published-front, published-rest, front-refl, front-trans, front-length}
+use Rattle.std.specs.Prelude.{Result, Ok, Err}
+use Rattle.osv_prim.specs.declared.memory.Memory.{Memory}
+use Rattle.book_model.specs.Desk.{Caller, saturating_sum}
+use Rattle.snapshot.specs.declared.job.Job.{Job}
+use Rattle.session_model.specs.declared.sign.Sign.{Sign}
+use Rattle.session_model.specs.declared.sign.Sign.TheVariants as signs
+use Rattle.session_model.specs.Answers.{AddsNothing, AddsEntry, ArePublications, PublishesFew, most_turns}
+use Rattle.session_model.specs.Counts.{Rises, Counts, OutsAre, busy_of, turns_of, looks_of}
+use Rattle.session_model.specs.Runs.{Goes}
+use Rattle.session_model.proofs.Runs.{goes-then}
+use Rattle.session_model.proofs.Counting.{rises-then, rises-less}
+use Rattle.desk_calls.specs.Calls.{Still, Counted, Reached, AreOut, Given, HandedIn, Publishes}
+use Rattle.desk_calls.specs.Publishing.{Adds, Worked, EndsPublishing, SoFarPublished, Going, PublishedBy}
+
+-- ---- histories
+
+marks-later : (a b : History) → IsPrefix a b → ArePublishedFrom start b → Grows (marks a) (marks b)
+marks-later a b f legal = subst (λ (h : History). Grows (marks a) (marks h)) f.1 (marks_grow a f.0 (subst (λ (h : History). ArePublishedFrom start h) (sym f.1) legal))
+
+count-is : (h : History) → (marks h).count ≡ length (imports h)
+count-is h = omega (arith, count_from start h)
+
+widen : (me from to later : ℕ) (xs : List (ℕ × Past)) → to ≤ later → ArePublications me from to xs → ArePublications me from later xs
+widen me from to later [] le p = tt
+widen me from to later (x ∷ xs) le p = (p.0, omega (arith, p.1, le), p.2, widen me from to later xs le p.3)
+
+sooner : (me from before to : ℕ) (xs : List (ℕ × Past)) → before ≤ from → ArePublications me from to xs → ArePublications me before to xs
+sooner me from before to [] le p = tt
+sooner me from before to (x ∷ xs) le p = (omega (arith, p.0, le), p.1, p.2, sooner me from before to xs le p.3)
+
+one-more : (me from to place upto : ℕ) (xs : List (ℕ × Past)) → from ≤ place → place < to → ArePublications me from to xs → ArePublications me from to (xs ++ (place, Publish me upto) ∷ [])
+one-more me from to place upto [] le lt p = (le, lt, refl, tt)
+one-more me from to place upto (x ∷ xs) le lt p = (p.0, p.1, p.2, one-more me from to place upto xs le lt p.3)
+
+-- ---- the publications so far
+
+pub published-start : (me goal : ℕ) (h : History) → goal ≤ length (imports h) → SoFarPublished me goal h h
+published-start me goal h came = record {
+  begins = front-refl h;
+  added = [];
+  mine = sym (append-nil (own me h));
+  each = tt;
+  few = omega arith;
+  one = λ x. absurd (omega (arith, x));
+  two = λ x. absurd (omega (arith, x));
+  goal_came = came;
+}
+
+pub published-same : (me goal : ℕ) (h mid now : History) → SoFarPublished me goal h mid → AddsNothing me mid now → IsLegal now → SoFarPublished me goal h now
+published-same me goal h mid now p a legal =
+    let g = marks-later mid now a.begins legal.published in
+    record {
+      begins = front-trans h mid now p.begins a.begins;
+      added = p.added;
+      mine = a.mine ∙ p.mine;
+      each = widen me (length h) (length mid) (length now) p.added (front-length mid now a.begins) p.each;
+      few = p.few;
+      one = λ x. omega (arith, p.one x, g.before);
+      two = λ x. omega (arith, p.two x, g.last);
+      goal_came = omega (arith, p.goal_came, g.count, count-is mid, count-is now);
+    }
+
+at-most-one : (n : ℕ) → (2 ≤ n → ⊥) → n ≤ 1
+at-most-one n never = omega (arith, never)
+
+pub published-more : (me goal place upto : ℕ) (h mid now : History) → SoFarPublished me goal h mid → AddsEntry me (Publish me upto) place mid now → (marks mid).last < goal → IsLegal now → SoFarPublished me goal h now
+published-more me goal place upto h mid now p a low legal =
+    let e : Past = Publish me upto in
+    let whole : ArePublishedFrom start (a.before ++ e ∷ []) = subst (λ (x : History). ArePublishedFrom start x) a.ends legal.published in
+    let g = marks-later mid a.before a.begins (published-front start a.before (e ∷ []) whole) in
+    let may = published-rest start a.before (e ∷ []) whole in
+    let m : marks now ≡ marked (marks a.before) e = ap marks a.ends ∙ marks_from-append start a.before (e ∷ []) in
+    let before_is : (marks now).before ≡ (marks a.before).count = ap (λ (k : Marks). k.before) m in
+    let last_is : (marks now).last ≡ upto = ap (λ (k : Marks). k.last) m in
+    let count_stays : (marks now).count ≡ (marks a.before).count = ap (λ (k : Marks). k.count) m in
+    let reaches : (marks a.before).before ≤ upto = may.0.2 in
+    let len : length now ≡ length a.before + 1 = ap (λ (x : History). length x) a.ends ∙ length-append a.before (e ∷ []) in
+    let few : length p.added ≤ 1 = at-most-one (length p.added) (λ x. omega (arith, p.two x, low)) in
+    let long : length (p.added ++ (place, e) ∷ []) ≡ length p.added + 1 = length-append p.added ((place, e) ∷ []) in
+    let from : length h ≤ length mid = front-length h mid p.begins in
+    let over : length mid ≤ length a.before = front-length mid a.before a.begins in
+    record {
+      begins = front-trans h mid now p.begins (front-trans mid a.before now a.begins (e ∷ [], sym a.ends));
+      added = p.added ++ (place, e) ∷ [];
+      mine = a.mine ∙ ap (λ (xs : List (ℕ × Past)). xs ++ (place, e) ∷ []) p.mine ∙ append_assoc (own me h) p.added ((place, e) ∷ []);
+      each = one-more me (length h) (length now) place upto p.added (omega (arith, from, over, a.place_is)) (omega (arith, len, a.place_is))
+          (widen me (length h) (length mid) (length now) p.added (omega (arith, over, len)) p.each);
+      few = omega (arith, few, long);
+      one = λ x. omega (arith, before_is, g.count, count-is mid, p.goal_came);
+      two = λ x. omega (arith, last_is, reaches, g.before, p.one (omega (arith, x, long)));
+      goal_came = omega (arith, count_stays, g.count, count-is mid, count-is now, p.goal_came);
+    }
+
+pub few-so-far : (me goal : ℕ) (h now : History) → SoFarPublished me goal h now → PublishesFew me h now
+few-so-far me goal h now p = record { begins = p.begins; added = p.added; mine = p.mine; few = p.few; each = p.each }
+
+-- ---- turns
+
+pub going-start : (c : Caller) (goal : ℕ) → goal ≤ length (imports c.front) → Goes c c → Rises 0 0 0 c c → Going c goal 0 c
+going-start c goal came g r = record { goes = g; so_far = published-start c.me goal c.front came; rises = r; outs = refl }
+
+still-so-far : (old mid new : Caller) (goal took : ℕ) → Going old goal took mid → Still mid new → SoFarPublished old.me goal old.front new.front
+still-so-far old mid new goal took p s =
+    published-same old.me goal old.front mid.front new.front p.so_far (subst (λ (k : ℕ). AddsNothing k mid.front new.front) p.goes.me s.none) s.goes.legal
+
+worked-so-far : (old mid new : Caller) (goal took : ℕ) → Going old goal took mid → IsLegal new.front → AddsNothing mid.me mid.front new.front ⊎ Adds mid goal new → SoFarPublished old.me goal old.front new.front
+worked-so-far old mid new goal took p legal (inl s) =
+    published-same old.me goal old.front mid.front new.front p.so_far (subst (λ (k : ℕ). AddsNothing k mid.front new.front) p.goes.me s) legal
+worked-so-far old mid new goal took p legal (inr a) =
+    published-more old.me goal a.place a.upto old.front mid.front new.front p.so_far (subst (λ (k : ℕ). AddsEntry k (Publish k a.upto) a.place mid.front new.front) p.goes.me a.entry) a.low legal
+
+pub going-on : (old mid new : Caller) (goal took : ℕ) → Going old goal took mid → Worked mid goal new → Going old goal (took + 1) new
+going-on old mid new goal took p w =
+    let both = rises-then old mid 0 took 0 new 0 1 1 p.rises w.rises in
+    record {
+      goes = goes-then old mid new p.goes w.goes;
+      so_far = worked-so-far old mid new goal took p w.goes.legal w.adds;
+      rises = rises-less old new (0 + 0) (took + 1) (0 + 1) 0 (took + 1) 0 (omega arith) (omega arith) (omega arith) both;
+      outs = w.outs ∙ p.outs;
+    }
+
+pub stopped : (old mid new : Caller) (goal took : ℕ) → Going old goal took mid → Still mid new → Goes old new × PublishesFew old.me old.front new.front
+stopped old mid new goal took p s = (goes-then old mid new p.goes s.goes, few-so-far old.me goal old.front new.front (still-so-far old mid new goal took p s))
+
+pub reached-ends : (old mid new : Caller) (goal took snapshot upto : ℕ) → Going old goal took mid → Reached mid goal snapshot upto new
+    → PublishedBy old goal (Ok (signs.Published snapshot upto)) new
+reached-ends old mid new goal took snapshot upto p r =
+    let s = stopped old mid new goal took p r.quiet.still in
+    let both = rises-then old mid 0 took 0 new 0 0 1 p.rises r.quiet.rises in
+    let within : snapshot ≤ newest new.front = omega (arith, r.snapshot_is) in (
+      s.0,
+      (within, sym r.upto_is, r.reaches, s.1),
+      rises-less old new (0 + 0) (took + 0) (0 + 1) 0 0 1 (omega arith) (omega arith) (omega arith) both,
+      r.quiet.outs ∙ p.outs,
+    )
+
+pub out-ends : (old mid new : Caller) (goal took out : ℕ) → took ≤ most_turns → Going old goal took mid → AreOut mid out new
+    → PublishedBy old goal (Ok (signs.Building out took)) new
+out-ends old mid new goal took out few p r =
+    let s = stopped old mid new goal took p r.still in
+    let both = rises-then old mid 0 took 0 new 1 0 1 p.rises r.rises in (
+      s.0,
+      (inl (r.some, few), s.1),
+      rises-less old new (0 + 1) (took + 0) (0 + 1) (min out 1) took 0 (omega arith) (omega arith) (omega arith) both,
+      (λ some. r.outs ∙ ap (λ (n : ℕ). saturating_sum n out) p.outs, λ none. absurd (omega (arith, r.some, none))),
+    )
+
+pub all-taken : (old now : Caller) (goal took : ℕ) → took ≤ most_turns → most_turns ≤ took → Going old goal took now
+    → PublishedBy old goal (Ok (signs.Building 0 took)) now
+all-taken old now goal took few all p =
+    let is : took ≡ most_turns = omega (arith, few, all) in (
+      p.goes,
+      (inr (refl, is), few-so-far old.me goal old.front now.front p.so_far),
+      rises-less old now 0 took 0 (min 0 1) took 0 (omega arith) (omega arith) (omega arith) p.rises,
+      (λ some. absurd (omega (arith, some)), λ none. p.outs),
+    )
+
+-- ---- behind the call that says how many imports there are
+
+pub few-behind : (old mid new : Caller) → Still old mid → PublishesFew mid.me mid.front new.front → PublishesFew old.me old.front new.front
+few-behind old mid new s p =
+    let q : PublishesFew old.me mid.front new.front = subst (λ (k : ℕ). PublishesFew k mid.front new.front) s.goes.me p in
+    record {
+      begins = front-trans old.front mid.front new.front s.none.begins q.begins;
+      added = q.added;
+      mine = q.mine ∙ ap (λ (xs : List (ℕ × Past)). xs ++ q.added) s.none.mine;
+      few = q.few;
+      each = sooner old.me (length mid.front) (length old.front) (length new.front) q.added (front-length old.front mid.front s.none.begins) q.each;
+    }
+
+pub ends-behind : (old mid new : Caller) (goal count : ℕ) (sign : Sign) → Still old mid → goal ≤ count → EndsPublishing mid count sign new → EndsPublishing old goal sign new
+ends-behind old mid new goal count signs.Plain s le e = absurd e
+ends-behind old mid new goal count signs.Looked s le e = absurd e
+ends-behind old mid new goal count (signs.Moved seen) s le e = absurd e
+ends-behind old mid new goal count (signs.Published snapshot upto) s le e =
+    let reaches : count ≤ upto = e.2 in
+    (e.0, e.1, omega (arith, le, reaches), few-behind old mid new s e.3)
+ends-behind old mid new goal count (signs.Building out took) s le e = (e.0, few-behind old mid new s e.1)
+
+pub counts-behind : (old mid new : Caller) (sign : Sign) → Rises 0 0 1 old mid → Counts sign mid new → Counts sign old new
+counts-behind old mid new sign p q =
+    let both = rises-then old mid 0 0 1 new (busy_of sign) (turns_of sign) (looks_of sign) p q in
+    rises-less old new (0 + busy_of sign) (0 + turns_of sign) (1 + looks_of sign) (busy_of sign) (turns_of sign) (looks_of sign) (omega arith) (omega arith) (omega arith) both
+
+outs-behind : (old mid new : Caller) (sign : Sign) → mid.outs ≡ old.outs → OutsAre sign mid new → OutsAre sign old new
+outs-behind old mid new signs.Plain e o = o ∙ e
+outs-behind old mid new signs.Looked e o = o ∙ e
+outs-behind old mid new (signs.Moved seen) e o = o ∙ e
+outs-behind old mid new (signs.Published snapshot upto) e o = o ∙ e
+outs-behind old mid new (signs.Building out took) e o = (λ some. o.0 some ∙ ap (λ (n : ℕ). saturating_sum n out) e, λ none. o.1 none ∙ e)
+
+pub published-behind : (old mid new : Caller) (count : ℕ) (r : Result Sign Memory) → Counted old count mid → PublishedBy mid count r new → PublishedBy old (length (imports old.front)) r new
+published-behind old mid new count (Ok sign) k p = (
+  goes-then old mid new k.quiet.still.goes p.0,
+  ends-behind old mid new (length (imports old.front)) count sign k.quiet.still k.least p.1,
+  counts-behind old mid new sign k.quiet.rises p.2,
+  outs-behind old mid new sign k.quiet.outs p.3,
+)
+published-behind old mid new count (Err e) k p = (goes-then old mid new k.quiet.still.goes p.0, few-behind old mid new k.quiet.still p.1)
+
+-- ---- a job
+
+pub worked : (old mid new : Caller) (goal : ℕ) (job : Job) → Given old goal job mid → HandedIn mid new → Worked old goal new
+worked old mid new goal job p h =
+    let both = rises-then old mid 0 0 1 new 0 1 1 p.quiet.rises h.rises in
+    record {
+      goes = goes-then old mid new p.quiet.still.goes h.goes;
+      rises = rises-less old new (0 + 0) (0 + 1) (1 + 1) 0 1 1 (omega arith) (omega arith) (omega arith) both;
+      outs = h.outs ∙ p.quiet.outs;
+      adds = adds-behind old mid new goal job p h.publishes;
+    }
+  where
+    adds-behind : (old mid new : Caller) (goal : ℕ) (job : Job) → Given old goal job mid → Publishes mid new → AddsNothing old.me old.front new.front ⊎ Adds old goal new
+    adds-behind old mid new goal job p (inl n) =
+        let q : AddsNothing old.me mid.front new.front = subst (λ (k : ℕ). AddsNothing k mid.front new.front) p.quiet.still.goes.me n in
+        inl (record { begins = front-trans old.front mid.front new.front p.quiet.still.none.begins q.begins; mine = q.mine ∙ p.quiet.still.none.mine })
+    adds-behind old mid new goal job p (inr a) =
+        let q : AddsEntry old.me (Publish old.me a.1) a.0 mid.front new.front = subst (λ (k : ℕ). AddsEntry k (Publish k a.1) a.0 mid.front new.front) p.quiet.still.goes.me a.2 in
+        let later = (marks-later old.front mid.front p.quiet.still.none.begins p.quiet.still.goes.legal.published).last in
+        inr (record {
+          place = a.0;
+          upto = a.1;
+          entry = record {
+            before = q.before;
+            begins = front-trans old.front mid.front q.before p.quiet.still.none.begins q.begins;
+            ends = q.ends;
+            place_is = q.place_is;
+            mine = q.mine ∙ ap (λ (xs : List (ℕ × Past)). xs ++ (a.0, Publish old.me a.1) ∷ []) p.quiet.still.none.mine;
+          };
+          low = omega (arith, later, p.low);
+        })
+
+pub still-then : (old mid new : Caller) → Still old mid → Still mid new → Still old new
+still-then old mid new p q =
+    let n : AddsNothing old.me mid.front new.front = subst (λ (k : ℕ). AddsNothing k mid.front new.front) p.goes.me q.none in
+    record {
+      goes = goes-then old mid new p.goes q.goes;
+      none = record { begins = front-trans old.front mid.front new.front p.none.begins n.begins; mine = n.mine ∙ p.none.mine };
+    }

@@ -1,0 +1,13 @@
+//! What the calls of a desk come to for a session, whatever the desk: the caller goes on, its own entries grow
+//! by what the answer tells, and its counts show the call; and a publication by turns of such calls.
+//!
+//! ```
+//! let sign = publish(alloc, &mut desk, &OpenGate, steps)?; // Published { snapshot, upto }
+//! ```
+#![tactic(auto)]
+
+mod calls;
+mod turns;
+
+pub use calls::{Named, count_of, finish_of, give_back_of, import_of, kept_of, newest_of, pull_of};
+pub use turns::publish;
