@@ -1,10 +1,12 @@
 -- Prefixes that go on, and their plans.
 use Rattle.std.proofs.Common.{◌≡◌, ℕ, ◌+◌, List, [], ◌∷◌, ◌++◌, length, map, length-append, sym, ap, subst, ◌∙◌}
+use Rattle.std.proofs.lemmas.List.{append-nil}
+use Rattle.osv_prim.specs.declared.oid.CommitRow.{CommitRow}
 use Rattle.osv_record.specs.Advisories.{Advisory}
 use Rattle.osv_record.specs.Imports.{records_from}
 use Rattle.osv_record.specs.Imports as counting
 use Rattle.history.specs.declared.past.Past.{Past}
-use Rattle.history.specs.declared.past.Past.TheVariants.{Import}
+use Rattle.history.specs.declared.past.Past.TheVariants.{Import, Grow}
 use Rattle.history.specs.Prefixes.{advisories, records, graphs}
 use Rattle.history.proofs.Prefixes.{advisories-append, graphs-go_on, records-of_parts}
 use Rattle.history.proofs.Records.{records-again, records-more}
@@ -13,6 +15,9 @@ use Rattle.impact_job.specs.Order.{Ascend}
 
 pub advisories-push : (came : List Past) (by : ℕ) (r : Advisory) → advisories (came ++ Import by r ∷ []) ≡ advisories came ++ r ∷ []
 advisories-push came by r = advisories-append came (Import by r ∷ [])
+
+pub advisories-stay : (came : List Past) (by : ℕ) (key : List ℕ) (rows : List CommitRow) → advisories (came ++ Grow by key rows ∷ []) ≡ advisories came
+advisories-stay came by key rows = advisories-append came (Grow by key rows ∷ []) ∙ append-nil (advisories came)
 
 pub graphs-push : (p : List Past) (by : ℕ) (r : Advisory) → graphs (p ++ Import by r ∷ []) ≡ graphs p
 graphs-push p by r = graphs-go_on p (Import by r ∷ [])

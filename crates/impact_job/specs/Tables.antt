@@ -1,6 +1,7 @@
 -- What tables, a prefix and a plan stand for (our own).
-use Rattle.std.specs.Prelude.{◌≡◌, ℕ, List, ◌++◌, length, map}
+use Rattle.std.specs.Prelude.{◌≡◌, ℕ, List, [], ◌∷◌, ◌++◌, length, map, if◌then◌else◌}
 use Rattle.std.specs.Arc.{arc_value}
+use Rattle.std.specs.Str.{bytes_eq}
 use Rattle.std.specs.declared.sync.Arc.{Arc}
 use Rattle.osv_prim.specs.declared.oid.CommitRow.{CommitRow}
 use Rattle.evaluate.specs.Hits.{Repo}
@@ -18,6 +19,16 @@ seen xs = map (λ a. arc_value a) xs
 abbrev pub repos_seen : {Z : Type 0} → List (List ℕ × Arc (List CommitRow) Z) → List Repo
 repos_seen repos = map (λ g. (g.0, arc_value g.1)) repos
 
+-- the repositories with this graph in place of the one that the repository has, or at the end where it has none
+abbrev pub with_graph : List Repo → List ℕ → List CommitRow → List Repo
+with_graph [] key graph = (key, graph) ∷ []
+with_graph (repo ∷ repos) key graph = if bytes_eq key repo.0 then (repo.0, graph) ∷ repos else repo ∷ with_graph repos key graph
+
+-- the same for each of some graphs in turn
+abbrev pub with_graphs : List Repo → List Repo → List Repo
+with_graphs repos [] = repos
+with_graphs repos (g ∷ later) = with_graphs (with_graph repos g.0 g.1) later
+
 -- the tables are those of these imports
 pub record StandsFor (tables : Tables) (p : List Past) : Type 0 where
   pub upto : tables.upto ≡ length p
@@ -32,8 +43,8 @@ pub record IsPrefixOf (prefix : Prefix) (b p : List Past) : Type 0 where
   pub came : List Past
   pub whole : p ≡ b ++ came
   pub added : seen prefix.added.items ≡ advisories came
-  -- no rows came
-  pub still : graphs p ≡ graphs b
+  -- the graphs that repositories had after their Grows, put in place of what they had before
+  pub grown : with_graphs (graphs b) (repos_seen prefix.grown.items) ≡ graphs p
   pub upto : prefix.upto ≡ length p
 
 abbrev pub plan_upto : Plan → ℕ

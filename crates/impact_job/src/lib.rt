@@ -11,6 +11,7 @@ mod latest;
 mod merge;
 mod planning;
 mod prefix;
+mod repos;
 mod split;
 mod tables;
 

@@ -1,20 +1,25 @@
 ghost use Rattle.std.specs.Prelude.{◌≡◌, ℕ, List, [], ◌∷◌, ◌++◌, OnOk, OnErr};
 ghost use Rattle.std.specs.Arc.{arc_value};
 ghost use Rattle.history.specs.declared.past.Past.{Past};
-ghost use Rattle.history.specs.declared.past.Past.TheVariants.{Import};
+ghost use Rattle.history.specs.declared.past.Past.TheVariants.{Import, Grow};
+ghost use Rattle.history.specs.Prefixes.{graph};
+ghost use Rattle.osv_prim.specs.declared.oid.CommitRow.{CommitRow};
 ghost use Rattle.impact_job.specs.Tables.{StandsFor, IsPrefixOf};
 
 use crate::tables::Tables;
-use osv_prim::Memory;
+use commit_graph::Graph;
+use osv_prim::{Memory, RepoKey};
 use osv_record::Record;
 use std::alloc::Global;
 use std::sync::Arc;
 
-/// The imports that a build is of: the tables of a snapshot, and the advisories that came since.
+/// The imports that a build is of: the tables of a snapshot, and the advisories and rows that came since.
 #[derive(Drop)]
 pub struct Prefix {
     pub(crate) base: Arc<Tables>,
     pub(crate) added: Vec<Arc<Record>>,
+    // For each Grow that came since, the repository and its graph after it.
+    pub(crate) grown: Vec<(RepoKey, Arc<Graph>)>,
     pub(crate) upto: u64,
 }
 
@@ -27,6 +32,7 @@ impl Prefix {
         Prefix {
             base,
             added: Vec::new(alloc),
+            grown: Vec::new(alloc),
             upto,
         }
     }
@@ -45,6 +51,22 @@ impl Prefix {
                 Ok(())
             }
         }
+    }
+
+    /// Adds the next import, of rows, by the whole graph that the repository has with them. Only memory can
+    /// fail, and then nothing is added.
+    pub fn grow(&mut self, key: RepoKey, whole: Arc<Graph>) -> Result<(), Memory>
+        ensures ok { (b p : List Past) (by : ℕ) (rows : List CommitRow) → IsPrefixOf self.old b p → arc_value whole ≡ graph (p ++ Grow by key rows ∷ []) key
+            → OnOk result (IsPrefixOf self.new b (p ++ Grow by key rows ∷ [])) }
+        ensures err { (b p : List Past) → IsPrefixOf self.old b p → OnErr result (IsPrefixOf self.new b p) }
+    {
+        // No memory has more.
+        let Some(upto) = self.upto.checked_add(1) else {
+            return Err(Memory);
+        };
+        self.grown.push((key, whole))?;
+        self.upto = upto;
+        Ok(())
     }
 
     /// How many imports there are.

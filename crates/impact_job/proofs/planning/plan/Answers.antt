@@ -3,6 +3,7 @@ use Rattle.std.specs.Arc.{arc_value}
 use Rattle.osv_record.specs.Advisories.{Advisory}
 use Rattle.impact_job.specs.Tables.{StandsFor, repos_seen}
 use Rattle.impact_job.specs.declared.tables.Tables.{Tables}
+use Rattle.impact_job.proofs.Graphs.{planned_graphs}
 use Rattle.impact_job.proofs.Prefixes.{planned, merge-at, latest-at}
 use Rattle.impact_job.proofs.planning.plan.Goals as goal
 
@@ -19,6 +20,10 @@ returns-clause-plan c = λ b p x.
           (record {
             upto = x.upto;
             kept = planned b x.came p (map (λ a. arc_value a) base) (map (λ a. arc_value a) c.args.prefix.now.added.items) (map (λ a. arc_value a.now) changed) new x.whole x.base.kept x.added last merge;
-            grown = c.in_ok-repos_of.ensures ∙ ap repos_seen (c.as_slice-4.ensures.value ∙ ap (λ (t : Tables). t.repos.items) c.deref-2.ensures) ∙ x.base.grown ∙ sym x.still;
+            grown =
+                c.in_ok-repos_of.ensures
+                ∙ planned_graphs b p (repos_seen c.as_slice-4.result.now) (repos_seen c.as_slice-5.result.now) (repos_seen c.args.prefix.now.grown.items)
+                (ap repos_seen (c.as_slice-4.ensures.value ∙ ap (λ (t : Tables). t.repos.items) c.deref-2.ensures) ∙ x.base.grown)
+                (ap repos_seen c.as_slice-5.ensures.value) x.grown;
           });
     }

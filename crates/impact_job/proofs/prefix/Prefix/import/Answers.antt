@@ -15,6 +15,6 @@ returns-in_ok-push-in-Some-clause-ok c = λ b p by x.
       came = x.came ++ Import by r ∷ [];
       whole = ap (λ (q : List Past). q ++ Import by r ∷ []) x.whole ∙ append_assoc b x.came (Import by r ∷ []);
       added = ap (map (λ a. arc_value a)) c.in_ok-push-in-Some.ensures.items ∙ map-append (λ a. arc_value a) c.args.self.now.added.items (c.args.advisory ∷ []) ∙ ap (λ (xs : List Advisory). xs ++ r ∷ []) x.added ∙ sym (advisories-push x.came by r);
-      still = graphs-push p by r ∙ x.still;
+      grown = x.grown ∙ sym (graphs-push p by r);
       upto = omega (arith, c.in-Some.ensures, x.upto, length-push p (Import by r));
     }
