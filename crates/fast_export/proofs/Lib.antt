@@ -2,7 +2,6 @@ pub mod Cuts
 pub mod Ends
 pub mod Fed
 pub mod Left
-pub mod Numbers
 pub mod Positions
 pub mod Resumes
 pub mod Turns

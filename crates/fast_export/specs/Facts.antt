@@ -10,7 +10,8 @@ use Rattle.fast_export.specs.declared.grammar.Part.{Part}
 use Rattle.fast_export.specs.declared.grammar.Part.TheVariants as parts
 use Rattle.fast_export.specs.declared.grammar.Command.{Command}
 use Rattle.fast_export.specs.declared.grammar.Command.TheVariants as commands
-use Rattle.fast_export.specs.Lines.{behind, begins, number_of, value_of, mark_of, mark_digits, is_file, is_inline}
+use Rattle.osv_prim.specs.Numerals.{u64_of}
+use Rattle.fast_export.specs.Lines.{behind, begins, mark_of, mark_digits, is_file, is_inline}
 use Rattle.fast_export.specs.Grammar.{word_text, promises}
 
 -- the rows and the marks of the earlier commits, and of the last commit its mark, its id and its parents
@@ -81,7 +82,7 @@ commit_id f at line =
 
 unfoldable pub data_line : ℕ → List ℕ → Answer
 data_line at line =
-    option_map_or (λ text. option_map_or (λ n. Counts n) (number_of text) (Refused (faults.BadData at))) (behind (codes "data ") line)
+    option_map_or (λ text. option_map_or (λ n. Counts n) (u64_of text) (Refused (faults.BadData at))) (behind (codes "data ") line)
     (Refused (faults.BadLine at))
 
 abbrev pub known : ℕ → Option (List ℕ) → Result (List ℕ) StreamFault
@@ -90,7 +91,7 @@ known at oid = option_map_or (λ o. Ok o) oid (Err (faults.UnknownMark at))
 -- a parent by its mark, which an earlier commit has
 unfoldable pub by_mark : (ℕ → Option (List ℕ)) → ℕ → List ℕ → Result (List ℕ) StreamFault
 by_mark marks at text =
-    option_map_or (λ digits. known at (option_and_then marks (value_of digits))) (mark_digits text) (Err (faults.RefParent at))
+    option_map_or (λ digits. known at (option_and_then marks (u64_of digits))) (mark_digits text) (Err (faults.RefParent at))
 
 -- a parent by its id or by its mark
 unfoldable pub parent_of : (ℕ → Option (List ℕ)) → ℕ → List ℕ → Result (List ℕ) StreamFault

@@ -3,6 +3,7 @@ use Rattle.std.specs.Prelude.{◌≡◌, ℕ, ◌+◌, ◌-◌, ◌*◌, ◌^◌
 use Rattle.std.specs.List.{list_all, position_or_len, before_first, after_first}
 use Rattle.std.specs.Option.{option_map_or}
 use Rattle.std.specs.Str.{bytes_eq}
+use Rattle.osv_prim.specs.Numerals.{is_numeral, u64_of}
 
 abbrev pub is_lf : ℕ → Bool
 is_lf c = c == 10
@@ -42,36 +43,14 @@ begins word line = is_some (behind word line)
 
 -- ---- numbers
 
-abbrev pub is_digit : ℕ → Bool
-is_digit c = nat_le 48 c && nat_le c 57
-
--- one digit or more
-abbrev pub is_digits : List ℕ → Bool
-is_digits text = not (length text == 0) && list_all is_digit text
-
--- the number that digits spell behind the digits of n
-abbrev pub spelled : ℕ → List ℕ → ℕ
-spelled n [] = n
-spelled n (c ∷ cs) = spelled (n * 10 + (c - 48)) cs
-
--- a number that fits 64 bits
-abbrev pub fits : ℕ → Option ℕ
-fits n = if nat_lt n (2 ^ 64) then Some n else None
-
-unfoldable pub value_of : List ℕ → Option ℕ
-value_of digits = fits (spelled 0 digits)
-
-unfoldable pub number_of : List ℕ → Option ℕ
-number_of text = if is_digits text then value_of text else None
-
 -- the digits of a mark, behind its colon
 unfoldable pub mark_digits : List ℕ → Option (List ℕ)
 mark_digits [] = None
-mark_digits (c ∷ cs) = if c == 58 && is_digits cs then Some cs else None
+mark_digits (c ∷ cs) = if c == 58 && is_numeral cs then Some cs else None
 
 -- the number of a mark
 abbrev pub mark_of : List ℕ → Option ℕ
-mark_of text = option_and_then value_of (mark_digits text)
+mark_of text = option_and_then u64_of (mark_digits text)
 
 -- ---- the files of a commit
 

@@ -1,7 +1,7 @@
 use crate::fault::StreamFault;
 use crate::grammar::{Command, Part};
-use crate::line::{begins, behind, is_file, is_inline, mark_digits, mark_of, number_of, value_of};
-use osv_prim::{CommitRow, List, Oid};
+use crate::line::{begins, behind, is_file, is_inline, mark_digits, mark_of};
+use osv_prim::{CommitRow, List, Oid, read_u64};
 use std::alloc::Global;
 use std::collections::BTreeMap;
 use std::mem;
@@ -147,7 +147,7 @@ impl Commits {
         let Some(digits) = mark_digits(text) else {
             return Err(StreamFault::RefParent { at });
         };
-        let Some(number) = value_of(digits) else {
+        let Some(number) = read_u64(digits) else {
             return Err(StreamFault::UnknownMark { at });
         };
         match self.marked(number) {
@@ -272,7 +272,7 @@ fn data_line(line: &[u8], at: u64) -> Result<Taken, StreamFault>
     let Some(text) = behind(b"data ", line) else {
         return Err(StreamFault::BadLine { at });
     };
-    match number_of(text) {
+    match read_u64(text) {
         Some(count) => Ok(Taken::Counts(count)),
         None => Err(StreamFault::BadData { at }),
     }

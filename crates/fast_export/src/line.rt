@@ -1,8 +1,11 @@
-ghost use Rattle.std.specs.Prelude.{◌≡◌, ◌<◌, ◌≤◌, ◌==◌, ◌+◌, ◌-◌, ◌*◌, option_map, IfSome, true, take, drop, length};
-ghost use Rattle.std.specs.List.{list_all, position};
-ghost use Rattle.fast_export.specs.Lines.{behind, begins, is_digit, is_digits, fits, spelled, value_of, number_of, mark_digits, mark_of, is_file_letter, tells_file, is_file, field, other_fields, is_inline_text, is_inline_note, is_inline};
+ghost use Rattle.std.specs.Prelude.{◌≡◌, ◌==◌, option_map, IfSome, true, take, drop, length};
+ghost use Rattle.std.specs.List.{position};
+ghost use Rattle.osv_prim.specs.Digits.{all_digits};
+ghost use Rattle.osv_prim.specs.Numerals.{is_numeral};
+ghost use Rattle.fast_export.specs.Lines.{behind, begins, mark_digits, mark_of, is_file_letter, tells_file, is_file, field, other_fields, is_inline_text, is_inline_note, is_inline};
 
 use memchr::memchr;
+use osv_prim::read_u64;
 
 /// The index of the first byte of this value.
 pub(crate) fn index_of(byte: u8, text: &[u8]) -> Option<usize>
@@ -24,70 +27,28 @@ pub(crate) fn begins(word: &[u8], line: &[u8]) -> bool
     behind(word, line).is_some()
 }
 
-fn is_digit(byte: u8) -> bool
-    ensures { result ≡ is_digit byte }
-{
-    byte.is_ascii_digit()
-}
-
 fn all_digits(text: &[u8]) -> bool
-    ensures { result ≡ list_all is_digit text.now }
+    ensures { result ≡ all_digits text.now }
 {
-    text.iter().all(|b| is_digit(*b))
+    text.iter().all(|byte| byte.is_ascii_digit())
 }
 
-/// Whether the text is one digit or more.
-pub(crate) fn is_digits(text: &[u8]) -> bool
-    ensures { result ≡ is_digits text.now }
+// Whether the text is one digit or more.
+fn is_numeral(text: &[u8]) -> bool
+    ensures { result ≡ is_numeral text.now }
 {
     !text.is_empty() && all_digits(text)
-}
-
-// The number with one more digit, where it fits 64 bits.
-fn with_digit(number: u64, byte: u8) -> Option<u64>
-    requires { is_digit byte ≡ true }
-    ensures { result ≡ fits (number * 10 + (byte - 48)) }
-{
-    number.checked_mul(10)?.checked_add(u64::from(byte - b'0'))
-}
-
-#[tactic(auto, unfolding(crate::specs::Lines::value_of))]
-/// The number that digits spell, where it fits 64 bits.
-pub(crate) fn value_of(digits: &[u8]) -> Option<u64>
-    requires { list_all is_digit digits.now ≡ true }
-    ensures { result ≡ value_of digits.now }
-{
-    let mut number = 0u64;
-    let mut rest = digits;
-    while let [byte, after @ ..] = rest {
-        number = with_digit(number, *byte)?;
-        rest = after;
-    }
-    Some(number)
-}
-
-#[tactic(auto, unfolding(crate::specs::Lines::number_of))]
-/// The number that a text of digits spells, where it is such a text and the number fits 64 bits.
-pub(crate) fn number_of(text: &[u8]) -> Option<u64>
-    ensures { result ≡ number_of text.now }
-{
-    if is_digits(text) {
-        value_of(text)
-    } else {
-        None
-    }
 }
 
 /// The digits of a mark, behind its colon.
 #[tactic(auto, unfolding(crate::specs::Lines::mark_digits))]
 pub(crate) fn mark_digits(text: &[u8]) -> Option<&[u8]>
-    ensures value { option_map (λ t. t.now) result ≡ mark_digits text.now }
-    ensures digits { IfSome result (λ t. list_all is_digit t.now ≡ true) }
+    ensures { option_map (λ t. t.now) result ≡ mark_digits text.now }
 {
     match text {
         [] => None,
         [colon, digits @ ..] => {
-            if *colon == b':' && is_digits(digits) {
+            if *colon == b':' && is_numeral(digits) {
                 Some(digits)
             } else {
                 None
@@ -100,7 +61,7 @@ pub(crate) fn mark_digits(text: &[u8]) -> Option<&[u8]>
 pub(crate) fn mark_of(text: &[u8]) -> Option<u64>
     ensures { result ≡ mark_of text.now }
 {
-    value_of(mark_digits(text)?)
+    read_u64(mark_digits(text)?)
 }
 
 fn is_file_letter(byte: u8) -> bool

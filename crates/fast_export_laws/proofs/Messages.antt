@@ -8,7 +8,8 @@ use Rattle.fast_export.specs.declared.fault.StreamFault.{StreamFault}
 use Rattle.fast_export.specs.declared.fault.StreamFault.TheVariants as faults
 use Rattle.fast_export.specs.declared.grammar.Part.{Part}
 use Rattle.fast_export.specs.declared.grammar.Part.TheVariants as parts_are
-use Rattle.fast_export.specs.Lines.{behind, begins, mark_of, number_of, is_file, is_inline}
+use Rattle.osv_prim.specs.Numerals.{u64_of}
+use Rattle.fast_export.specs.Lines.{behind, begins, mark_of, is_file, is_inline}
 use Rattle.fast_export.specs.Grammar.{Opening, parts_of, is_done, word_text}
 use Rattle.fast_export.specs.Facts.{Facts, start, settled, rows_of, Answer, Took, Counts, Passed, Refused, takes, opens, with_line, mark_line, commit_mark, marks_commit, commit_id, data_line, parent_of, with_parent, parent_text, parent_line, merge_line, file_line}
 use Rattle.fast_export.specs.Stream.{Step, ◌>>=◌, outcome, stream}
@@ -91,9 +92,9 @@ module _ (line : List ℕ) where
   data_line-data at = by (behind (codes "data ") line) refl
     where
       by : (o : Option (List ℕ)) → behind (codes "data ") line ≡ o
-          → AnswerData (option_map_or (λ text. option_map_or (λ n. Counts n) (number_of text) (Refused (faults.BadData at))) o (Refused (faults.BadLine at)))
+          → AnswerData (option_map_or (λ text. option_map_or (λ n. Counts n) (u64_of text) (Refused (faults.BadData at))) o (Refused (faults.BadLine at)))
       by None e = tt
-      by (Some text) e = opt AnswerData (λ n. Counts n) (number_of text) (Refused (faults.BadData at)) (λ n. ap is_some e) tt
+      by (Some text) e = opt AnswerData (λ n. Counts n) (u64_of text) (Refused (faults.BadData at)) (λ n. ap is_some e) tt
 
   with_parent-data : (f : Facts) (r : Result (List ℕ) StreamFault) → AnswerData (with_parent f r)
   with_parent-data f (Ok oid) = tt

@@ -8,7 +8,8 @@ use Rattle.fast_export.specs.declared.fault.StreamFault.{StreamFault}
 use Rattle.fast_export.specs.declared.fault.StreamFault.TheVariants as faults
 use Rattle.fast_export.specs.declared.grammar.Part.{Part}
 use Rattle.fast_export.specs.declared.grammar.Part.TheVariants as parts_are
-use Rattle.fast_export.specs.Lines.{Lined, Line, Nothing, Cut, TooLong, line_of, behind, begins, mark_of, number_of, value_of, mark_digits, is_file, is_inline}
+use Rattle.osv_prim.specs.Numerals.{u64_of}
+use Rattle.fast_export.specs.Lines.{Lined, Line, Nothing, Cut, TooLong, line_of, behind, begins, mark_of, mark_digits, is_file, is_inline}
 use Rattle.fast_export.specs.Grammar.{Opening, may_end, repeats, parts_of, is_done, word_text}
 use Rattle.fast_export.specs.Facts.{Facts, start, settled, rows_of, Answer, Took, Counts, Passed, Refused, takes, opens, with_line, mark_line, commit_mark, marks_commit, commit_id, data_line, by_mark, parent_of, with_parent, parent_text, parent_line, merge_line, file_line, other_command, names}
 use Rattle.fast_export.specs.Stream.{Step, Next, Stop, ◌>>=◌, Outcome, Bad, Whole, Short, Turn, Again, Over, turned, repeated, all, at_end, skipping, answered, on_line, turn, part, parts, behind_command, opened, on_first_line, command, outcome, stream, answer}
@@ -77,12 +78,12 @@ commit_id-kind f at line = opt AnswerOfLine _ (behind (codes "original-oid ") li
 
 data_line-kind : (at : ℕ) (line : List ℕ) → AnswerOfLine (data_line at line)
 unfolding data_line
-data_line-kind at line = opt AnswerOfLine _ (behind (codes "data ") line) _ (λ text. opt AnswerOfLine _ (number_of text) _ (λ n. tt) tt) tt
+data_line-kind at line = opt AnswerOfLine _ (behind (codes "data ") line) _ (λ text. opt AnswerOfLine _ (u64_of text) _ (λ n. tt) tt) tt
 
 by_mark-kind : (marks : ℕ → Option (List ℕ)) (at : ℕ) (text : List ℕ) → ResultOfLine (by_mark marks at text)
 unfolding by_mark
 by_mark-kind marks at text =
-    opt ResultOfLine _ (mark_digits text) _ (λ digits. opt ResultOfLine _ (option_and_then marks (value_of digits)) _ (λ o. tt) tt) tt
+    opt ResultOfLine _ (mark_digits text) _ (λ digits. opt ResultOfLine _ (option_and_then marks (u64_of digits)) _ (λ o. tt) tt) tt
 
 parent_of-kind : (marks : ℕ → Option (List ℕ)) (at : ℕ) (text : List ℕ) → ResultOfLine (parent_of marks at text)
 unfolding parent_of

@@ -1,7 +1,7 @@
 -- What the fields of a head say (RFC 9112, sections 6 and 9; RFC 9110, sections 8.4 and 10.1.1).
 use Rattle.std.specs.Prelude.{ℕ, Bool, true, false, not, nat_lt, nat_le, if◌then◌else◌, ◌&&◌, ◌||◌, ◌==◌, List, [], ◌∷◌, map, length, Option, Some, None, Result, Ok, Err, codes}
 use Rattle.std.specs.List.{list_all, list_any, before_first, after_first}
-use Rattle.std.specs.Str.Parse.{digits_value}
+use Rattle.osv_prim.specs.Digits.{number}
 use Rattle.httparse.specs.Grammar.{RequestHead}
 use Rattle.httparse.specs.Spans.{name_and_value}
 use Rattle.http_wire.specs.declared.fault.WireFault.{WireFault}
@@ -45,12 +45,12 @@ are_chunked vs = nat_le (length vs) 1 && list_all (λ v. is_same_word v (codes "
 -- each value is a length, and they are one number
 unfoldable pub are_lengths : List (List ℕ) → Bool
 are_lengths [] = true
-are_lengths (v ∷ vs) = is_length v && list_all (λ w. is_length w && (digits_value 10 w == digits_value 10 v)) vs
+are_lengths (v ∷ vs) = is_length v && list_all (λ w. is_length w && (number w == number v)) vs
 
 -- the body's length, 0 where no field says it
 unfoldable pub length_of : List (List ℕ) → ℕ
 length_of [] = 0
-length_of (v ∷ vs) = digits_value 10 v
+length_of (v ∷ vs) = number v
 
 unfoldable pub are_identity : List (List ℕ) → Bool
 are_identity vs = list_all (λ v. is_same_word v (codes "identity")) vs

@@ -1,4 +1,4 @@
-//! HTTP/1.1 on the wire (RFC 9112): requests in, whatever pieces their bytes come in.
+//! HTTP/1.1 on the wire (RFC 9112): requests in, whatever pieces their bytes come in, and replies out.
 //!
 //! ```
 //! let mut held = Held::new(alloc)?;
