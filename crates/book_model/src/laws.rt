@@ -1,7 +1,7 @@
 //! Laws of the steps, each the contract of a function that does nothing.
 
 ghost use mathlib.Core.List.{IsPrefix};
-ghost use Rattle.std.specs.Prelude.{◌≡◌, ◌+◌, ◌<◌, ◌≤◌, ℕ, List, length, false, Result, Ok, Err, Some, None};
+ghost use Rattle.std.specs.Prelude.{◌≡◌, ◌+◌, ◌<◌, ◌≤◌, ℕ, List, length, Bool, true, false, Result, Ok, Err, Some, None};
 ghost use Rattle.std.specs.List.{list_any};
 ghost use Rattle.osv_prim.specs.declared.memory.Memory.{Memory};
 ghost use Rattle.osv_prim.specs.declared.oid.CommitRow.{CommitRow};
@@ -25,7 +25,7 @@ ghost use Rattle.book_model.specs.declared.answers.Pulled.TheVariants as pulled;
 ghost use Rattle.book_model.specs.State.{Build, State, is_out, cells_in};
 ghost use Rattle.book_model.specs.Jobs.{JobName, Outcome, owner};
 ghost use Rattle.book_model.specs.Steps.{Enrols, Imports, CountsImports, ShowsRepo, Grows, Looks, GoesOut, Pulls, Takes, Finishes, GivesBack};
-ghost use Rattle.book_model.specs.Conditions.{MayCall, MayGrow, MayPull};
+ghost use Rattle.book_model.specs.Conditions.{MayCall, MayGrow, MayPull, MayFinish, MayGiveBack};
 ghost use Rattle.book_model.specs.Sound.{IsSound, Keeps};
 ghost use Rattle.book_model.specs.Desk.{Caller, IsEvent, AddsOwn, AddsNone};
 
@@ -55,11 +55,13 @@ pub fn steps_only_add()
 {}
 
 /// What a call needs lasts: it holds of every history that begins with this one, and of every greater
-/// count of callers.
+/// count of callers. Jobs stand here for their names, and `holds` is any test of what they hold.
 pub fn conditions_last()
     ensures call { (by : ℕ) (a h : History) (n m : ℕ) → MayCall by a n → IsPrefix a h → n ≤ m → MayCall by h m }
     ensures grow { (key : List ℕ) (version : ℕ) (rows : List CommitRow) (by : ℕ) (a h : History) (n m : ℕ) → MayGrow key version rows by a n → IsPrefix a h → n ≤ m → MayGrow key version rows by h m }
     ensures pull { (goal by : ℕ) (a h : History) (n m : ℕ) → MayPull goal by a n → IsPrefix a h → n ≤ m → MayPull goal by h m }
+    ensures finish { (holds : Outcome → List Past → List Past → Bool) (done : Outcome) (by : ℕ) (a h : History) (n m : ℕ) → MayFinish (λ o. o) (λ o b p. holds o b p ≡ true) done by a n → IsPrefix a h → n ≤ m → MayFinish (λ o. o) (λ o b p. holds o b p ≡ true) done by h m }
+    ensures give_back { (holds : JobName → List Past → List Past → Bool) (job : JobName) (by : ℕ) (a h : History) (n m : ℕ) → MayGiveBack (λ j. j) (λ j b p. holds j b p ≡ true) job by a n → IsPrefix a h → n ≤ m → MayGiveBack (λ j. j) (λ j b p. holds j b p ≡ true) job by h m }
 {}
 
 /// What a call adds to its caller's own entries: that of which its answer tells.
