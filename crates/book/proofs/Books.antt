@@ -4,12 +4,10 @@ use Rattle.std.specs.Prelude.{Option, Some, None, Ok, Err, IfSome, IsSomeAnd, Al
 use Rattle.std.proofs.Math.Seq.{take-length}
 use Rattle.std.proofs.lemmas.List.Elements.{All-nil}
 use Rattle.osv_prim.specs.declared.memory.Memory.{Memory}
-use Rattle.osv_record.specs.Advisories.{Advisory}
 use Rattle.settings.specs.declared.Settings.{Settings}
-use Rattle.settings.specs.Ranges.{AreInRange}
 use Rattle.turn_lock.specs.declared.note.Note.{Note}
 use Rattle.history.specs.declared.past.Past.{Past}
-use Rattle.history.specs.declared.past.Past.TheVariants.{Import, Publish}
+use Rattle.history.specs.declared.past.Past.TheVariants.{Publish}
 use Rattle.history.specs.Entries.{History, caller, imports, newest, upto_of, snap, weight, entry_weight, oldest_kept}
 use Rattle.history.proofs.Entries.{imports-append, weight-append, count-le-weight, few}
 use Rattle.history.proofs.Legality.{legal-empty}
@@ -22,7 +20,7 @@ use Rattle.book_model.specs.Jobs.{StandsIn, owner}
 use Rattle.book_model.specs.Steps.{GoesOut, freed}
 use Rattle.book_model.specs.Sound.{IsOpen, IsSound}
 use Rattle.book_model.proofs.Owned.{some_weaker, owned}
-use Rattle.book_model.proofs.Sound.{enrols-sound, imports-sound, pulls-sound, takes-sound, finishes-sound, gives_back-sound}
+use Rattle.book_model.proofs.Sound.{enrols-sound, pulls-sound, takes-sound, finishes-sound, gives_back-sound}
 use Rattle.book_model.proofs.Lasting.{stands-lasts}
 use Rattle.snapshot.specs.declared.snapshot.Snapshot.{Snapshot}
 use Rattle.snapshot.specs.declared.job.Job.{Job}
@@ -34,8 +32,8 @@ use Rattle.book.specs.declared.build.Stage.{Stage}
 use Rattle.book.specs.declared.build.Stage.TheVariants as stages
 use Rattle.book.specs.declared.ledger.Counts.{Counts}
 use Rattle.book.specs.Builds.{phase_of, stage_work, build_with, build_of, IsUnderWay}
-use Rattle.book.specs.Books.{state_of, AreKept, IsBook}
-use Rattle.book.proofs.Keeping.{newest-import, published-import, imports-publish, newest-publish, published-publish, front-stays, first_imports, all_imports, kept-lasts, kept-push, kept-rest}
+use Rattle.book.specs.Books.{state_of, AreKept, SuitsBook, IsBook}
+use Rattle.book.proofs.Keeping.{IsImport, newest-import, published-import, imports-publish, newest-publish, published-publish, front-stays, kept-lasts, kept-push, kept-rest}
 
 -- ---- parts of a build
 
@@ -52,13 +50,13 @@ with_free upto kind = record { upto = upto; phase = kind; cells = Free ∷ [] }
 
 -- ---- a new book
 
-pub book-new : (settings : Settings) (empty : Snapshot) → AreInRange settings → StandsFor empty [] → IsBook settings [] 0 None first_note (record { imports = 0; used = 0; newest = 0; published = 0; after = 0 }) (empty ∷ [])
-book-new settings empty range st =
-    let keep : 1 ≤ settings.keep = range.keep.0 in
+pub book-new : (settings : Settings) (empty : Snapshot) → SuitsBook settings → StandsFor empty [] → IsBook settings [] 0 None first_note (record { imports = 0; used = 0; newest = 0; published = 0; after = 0 }) (empty ∷ [])
+book-new settings empty suits st =
+    let keep : 1 ≤ settings.keep = suits.keep.0 in
     let oldest : oldest_kept settings.keep [] ≡ 0 = omega (arith, keep) in
     record {
       sound = record { legal = legal-empty; within = omega arith; given = All-nil (λ (e : Past). caller e < 0); callers = omega arith; build = tt };
-      range = range;
+      suits = suits;
       imported = refl;
       used = refl;
       newest_is = refl;
@@ -79,13 +77,13 @@ few_in_book settings h callers build note counts kept b =
     let f : newest h ≤ length (imports h) = few h b.sound.legal.published in
     let w : 64 * length (imports h) ≤ weight h = count-le-weight h in
     let within : weight h ≤ settings.weight = b.sound.within in
-    (omega (arith, f, b.newest_is, b.imported), omega (arith, w, b.imported, b.used), omega (arith, within, b.used), b.range.weight.1)
+    (omega (arith, f, b.newest_is, b.imported), omega (arith, w, b.imported, b.used), omega (arith, within, b.used), b.suits.weight)
 
 -- some snapshot is kept, and no more than the settings say
 pub kept_in_book : (settings : Settings) (h : History) (callers : ℕ) (build : Option Open) (note : Note) (counts : Counts) (kept : List Snapshot)
     → IsBook settings h callers build note counts kept → (1 ≤ length kept) × (length kept ≤ settings.keep)
 kept_in_book settings h callers build note counts kept b =
-    let keep : 1 ≤ settings.keep = b.range.keep.0 in
+    let keep : 1 ≤ settings.keep = b.suits.keep.0 in
     (omega (arith, b.kept_count, b.newest_is, keep), omega (arith, b.kept_count, b.newest_is, keep))
 
 -- ---- steps that leave the history
@@ -94,7 +92,7 @@ pub book-noted : (settings : Settings) (h : History) (callers : ℕ) (build : Op
 book-noted settings h callers build old new counts kept b =
     record {
       sound = record { legal = b.sound.legal; within = b.sound.within; given = b.sound.given; callers = b.sound.callers; build = b.sound.build };
-      range = b.range;
+      suits = b.suits;
       imported = b.imported;
       used = b.used;
       newest_is = b.newest_is;
@@ -110,7 +108,7 @@ pub book-enrolled : (settings : Settings) (h : History) (callers : ℕ) (build :
 book-enrolled settings h callers build note counts kept lt b =
     record {
       sound = enrols-sound (state_of settings h callers build note) (state_of settings h (callers + 1) build note) (Ok callers) b.sound (refl, lt, refl);
-      range = b.range;
+      suits = b.suits;
       imported = b.imported;
       used = b.used;
       newest_is = b.newest_is;
@@ -129,7 +127,7 @@ pub book-build : (settings : Settings) (h : History) (callers : ℕ) (old new : 
 book-build settings h callers old new note counts kept sound way b =
     record {
       sound = sound;
-      range = b.range;
+      suits = b.suits;
       imported = b.imported;
       used = b.used;
       newest_is = b.newest_is;
@@ -141,7 +139,7 @@ book-build settings h callers old new note counts kept sound way b =
       underway = way;
     }
 
--- ---- an import
+-- ---- an import, of an advisory or of rows
 
 way-lasts : (next : ℕ) (h more : History) (o : Open) → IsUnderWay next h o.upto o.place o.stage → IsUnderWay next (h ++ more) o.upto o.place o.stage
 way-lasts next h more o w =
@@ -153,31 +151,30 @@ way-lasts next h more o w =
       reached = front-stays h more o.place w.within ∙ w.reached;
     }
 
-pub book-imported : (settings : Settings) (h : History) (callers : ℕ) (build : Option Open) (note : Note) (counts : Counts) (kept : List Snapshot) (by w : ℕ) (r : Advisory)
-    → by < callers → w ≡ entry_weight (Import by r) → counts.used + w ≤ settings.weight → IsBook settings h callers build note counts kept
-    → IsBook settings (h ++ Import by r ∷ []) callers build note (record { imports = counts.imports + 1; used = counts.used + w; newest = counts.newest; published = counts.published; after = counts.after }) kept
-book-imported settings h callers build note counts kept by w r lt is room b =
-    let e : Past = Import by r in
-    let count : length (imports (h ++ Import by r ∷ [])) ≡ length (imports h) + 1 =
-    ap (λ (xs : List Past). length xs) (imports-append h (Import by r ∷ [])) ∙ length-append (imports h) (Import by r ∷ []) in
-    let weighs : weight (h ++ Import by r ∷ []) ≡ weight h + entry_weight (Import by r) = weight-push h (Import by r) in
-    let news : newest (h ++ Import by r ∷ []) ≡ newest h = newest-import h by r in
-    let longer : length (h ++ Import by r ∷ []) ≡ length h + 1 = length-append h (Import by r ∷ []) in
-    let oldest : oldest_kept settings.keep (h ++ Import by r ∷ []) ≡ oldest_kept settings.keep h = ap (λ (n : ℕ). n + 1 - settings.keep) news in
+pub book-entered : (settings : Settings) (h : History) (callers : ℕ) (build : Option Open) (note : Note) (counts : Counts) (kept : List Snapshot) (e : Past) (w : ℕ)
+    → IsImport e → IsSound (state_of settings (h ++ e ∷ []) callers build note) → w ≡ entry_weight e → IsBook settings h callers build note counts kept
+    → IsBook settings (h ++ e ∷ []) callers build note (record { imports = counts.imports + 1; used = counts.used + w; newest = counts.newest; published = counts.published; after = counts.after }) kept
+book-entered settings h callers build note counts kept e w i sound is b =
+    let count : length (imports (h ++ e ∷ [])) ≡ length (imports h) + 1 =
+    ap (λ (xs : List Past). length xs) (imports-append h (e ∷ [])) ∙ length-append (imports h) (imports (e ∷ [])) ∙ ap (λ (xs : List Past). length (imports h) + length xs) i.imported in
+    let weighs : weight (h ++ e ∷ []) ≡ weight h + entry_weight e = weight-push h e in
+    let news : newest (h ++ e ∷ []) ≡ newest h = newest-import h e i in
+    let longer : length (h ++ e ∷ []) ≡ length h + 1 = length-append h (e ∷ []) in
+    let oldest : oldest_kept settings.keep (h ++ e ∷ []) ≡ oldest_kept settings.keep h = ap (λ (n : ℕ). n + 1 - settings.keep) news in
     record {
-      sound = imports-sound by r (state_of settings h callers build note) (state_of settings (h ++ Import by r ∷ []) callers build note) (Ok (length h)) lt b.sound (omega (arith, b.used, is, room), refl, refl);
-      range = b.range;
+      sound = sound;
+      suits = b.suits;
       imported = omega (arith, count, b.imported);
       used = omega (arith, weighs, b.used, is);
       newest_is = b.newest_is ∙ sym news;
-      published_is = b.published_is ∙ sym (published-import h by r);
+      published_is = b.published_is ∙ sym (published-import h e i);
       after = omega (arith, longer, b.after);
-      reached = front-stays h (Import by r ∷ []) counts.after b.after ∙ b.reached;
+      reached = front-stays h (e ∷ []) counts.after b.after ∙ b.reached;
       kept_are =
-          subst (λ (s : ℕ). AreKept (h ++ Import by r ∷ []) s kept) (sym oldest)
-          (kept-lasts h (Import by r ∷ []) (oldest_kept settings.keep h) kept b.sound.legal (omega (arith, b.kept_count, b.newest_is)) b.kept_are);
+          subst (λ (s : ℕ). AreKept (h ++ e ∷ []) s kept) (sym oldest)
+          (kept-lasts h (e ∷ []) (oldest_kept settings.keep h) kept b.sound.legal (omega (arith, b.kept_count, b.newest_is)) b.kept_are);
       kept_count = omega (arith, b.kept_count, oldest);
-      underway = some_weaker (λ (o : Open). IsUnderWay (counts.newest + 1) h o.upto o.place o.stage) (λ (o : Open). IsUnderWay (counts.newest + 1) (h ++ Import by r ∷ []) o.upto o.place o.stage) build (way-lasts (counts.newest + 1) h (Import by r ∷ [])) b.underway;
+      underway = some_weaker (λ (o : Open). IsUnderWay (counts.newest + 1) h o.upto o.place o.stage) (λ (o : Open). IsUnderWay (counts.newest + 1) (h ++ e ∷ []) o.upto o.place o.stage) build (way-lasts (counts.newest + 1) h (e ∷ [])) b.underway;
     }
 
 -- ---- a publication
@@ -210,7 +207,7 @@ book-published settings h callers o note counts kept left by next upto x lt out 
     record {
       sound = finishes-sound by (record { job = only next upto Assemble; cells = [] }) (state_of settings h callers (Some o) note) (state_of settings (h ++ Publish by upto ∷ []) callers None note)
           (Ok (progress.Published (length h) (newest h + 1))) lt refl b.sound (out, (refl, refl, refl));
-      range = b.range;
+      suits = b.suits;
       imported = b.imported ∙ sym (ap (λ (xs : List Past). length xs) (imports-publish h by upto));
       used = omega (arith, weighs, b.used);
       newest_is = omega (arith, newest-publish h by upto, b.newest_is);
@@ -227,15 +224,13 @@ book-published settings h callers o note counts kept left by next upto x lt out 
 -- the prefix of a build over all imports
 pub opened-way : (settings : Settings) (h : History) (callers : ℕ) (build : Option Open) (note : Note) (counts : Counts) (kept : List Snapshot) (stage : Stage)
     → published h < length (imports h)
-    → is_work (stage_work (counts.newest + 1) stage) (snap h (newest h)) (snap h (newest h) ++ imports (drop counts.after h))
+    → is_work (stage_work (counts.newest + 1) stage) (snap h (newest h)) (imports h)
     → ((b p : List Past) → is_work (stage_work (counts.newest + 1) stage) b p → (name_of (stage_work (counts.newest + 1) stage)).upto ≡ length p)
     → IsBook settings h callers build note counts kept → IsUnderWay (counts.newest + 1) h counts.imports (length h) stage
 opened-way settings h callers build note counts kept stage more work upto b =
     let next : ℕ = counts.newest + 1 in
     let base : counts.newest + 1 - 1 ≡ newest h = omega (arith, b.newest_is) in
-    let all : snap h (newest h) ++ imports (drop counts.after h) ≡ imports h = all_imports h counts.after (published h) (b.reached ∙ b.published_is) in
     let whole : take counts.imports (imports h) ≡ imports h = ap (λ (n : ℕ). take n (imports h)) b.imported ∙ take-length (imports h) in
-    let over : is_work (stage_work (counts.newest + 1) stage) (snap h (newest h)) (imports h) = subst (λ (p : List Past). is_work (stage_work (counts.newest + 1) stage) (snap h (newest h)) p) all work in
     record {
       holds = record {
         within = record {
@@ -246,9 +241,9 @@ opened-way settings h callers build note counts kept stage more work upto b =
         };
         stands =
             subst (λ (s : ℕ). is_work (stage_work (counts.newest + 1) stage) (snap h s) (take counts.imports (imports h))) (sym base)
-            (subst (λ (p : List Past). is_work (stage_work (counts.newest + 1) stage) (snap h (newest h)) p) (sym whole) over);
+            (subst (λ (p : List Past). is_work (stage_work (counts.newest + 1) stage) (snap h (newest h)) p) (sym whole) work);
       };
-      named = upto (snap h (newest h)) (imports h) over ∙ sym b.imported;
+      named = upto (snap h (newest h)) (imports h) work ∙ sym b.imported;
       within = omega arith;
       reached = ap (λ (x : History). length (imports x)) (take-length h) ∙ sym b.imported;
     }

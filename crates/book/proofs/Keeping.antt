@@ -3,11 +3,12 @@ use Rattle.std.proofs.Common.{◌≡◌, ℕ, zero, suc, ◌+◌, ◌-◌, ◌<�
 use Rattle.std.proofs.lemmas.List.{append-nil, take-append-le, take-append-drop}
 use Rattle.std.proofs.Math.Seq.{take-append_seam}
 use Rattle.history.specs.declared.past.Past.{Past}
-use Rattle.history.specs.declared.past.Past.TheVariants.{Import, Publish}
+use Rattle.history.specs.declared.past.Past.TheVariants.{Import, Grow, Publish}
 use Rattle.history.specs.Entries.{History, imports, uptos, newest, upto_of, snap, oldest_kept}
 use Rattle.history.specs.Legality.{IsLegal}
 use Rattle.history.proofs.Entries.{imports-append, uptos-append, newest-append}
 use Rattle.history.proofs.Legality.{snap-stays-legal}
+use Rattle.osv_prim.specs.declared.oid.CommitRow.{CommitRow}
 use Rattle.osv_record.specs.Advisories.{Advisory}
 use Rattle.book_model.specs.State.{published}
 use Rattle.snapshot.specs.declared.snapshot.Snapshot.{Snapshot}
@@ -16,14 +17,25 @@ use Rattle.book.specs.Books.{AreKept}
 
 -- ---- imports and publications at the end
 
-pub uptos-import : (h : History) (by : ℕ) (r : Advisory) → uptos (h ++ Import by r ∷ []) ≡ uptos h
-uptos-import h by r = uptos-append h (Import by r ∷ []) ∙ append-nil (uptos h)
+-- an entry that counts as an import
+pub record IsImport (e : Past) : Type 0 where
+  pub imported : imports (e ∷ []) ≡ e ∷ []
+  pub unpublished : uptos (e ∷ []) ≡ []
 
-pub newest-import : (h : History) (by : ℕ) (r : Advisory) → newest (h ++ Import by r ∷ []) ≡ newest h
-newest-import h by r = ap (λ (us : List ℕ). length us) (uptos-import h by r)
+pub import-is : (by : ℕ) (r : Advisory) → IsImport (Import by r)
+import-is by r = record { imported = refl; unpublished = refl }
 
-pub published-import : (h : History) (by : ℕ) (r : Advisory) → published (h ++ Import by r ∷ []) ≡ published h
-published-import h by r = ap (λ (us : List ℕ). get_or (0 ∷ us) (length us) 0) (uptos-import h by r)
+pub grow-is : (by : ℕ) (key : List ℕ) (rows : List CommitRow) → IsImport (Grow by key rows)
+grow-is by key rows = record { imported = refl; unpublished = refl }
+
+pub uptos-import : (h : History) (e : Past) → IsImport e → uptos (h ++ e ∷ []) ≡ uptos h
+uptos-import h e c = uptos-append h (e ∷ []) ∙ ap (λ (us : List ℕ). uptos h ++ us) c.unpublished ∙ append-nil (uptos h)
+
+pub newest-import : (h : History) (e : Past) → IsImport e → newest (h ++ e ∷ []) ≡ newest h
+newest-import h e c = ap (λ (us : List ℕ). length us) (uptos-import h e c)
+
+pub published-import : (h : History) (e : Past) → IsImport e → published (h ++ e ∷ []) ≡ published h
+published-import h e c = ap (λ (us : List ℕ). get_or (0 ∷ us) (length us) 0) (uptos-import h e c)
 
 pub imports-publish : (h : History) (by upto : ℕ) → imports (h ++ Publish by upto ∷ []) ≡ imports h
 imports-publish h by upto = imports-append h (Publish by upto ∷ []) ∙ append-nil (imports h)
@@ -48,11 +60,6 @@ pub first_imports : (h : History) (k n : ℕ) → length (imports (take k h)) �
 first_imports h k n e =
     let whole : imports h ≡ imports (take k h) ++ imports (drop k h) = ap imports (sym (take-append-drop k h)) ∙ imports-append (take k h) (drop k h) in
     ap (λ (m : ℕ). take m (imports h)) (sym e) ∙ ap (λ (xs : List Past). take (length (imports (take k h))) xs) whole ∙ take-append_seam (imports (take k h)) (imports (drop k h))
-
--- and then all imports are these and those of the later entries
-pub all_imports : (h : History) (k n : ℕ) → length (imports (take k h)) ≡ n → take n (imports h) ++ imports (drop k h) ≡ imports h
-all_imports h k n e =
-    ap (λ (xs : List Past). xs ++ imports (drop k h)) (first_imports h k n e) ∙ sym (imports-append (take k h) (drop k h)) ∙ ap imports (take-append-drop k h)
 
 -- ---- what is kept
 

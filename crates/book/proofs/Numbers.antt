@@ -8,13 +8,16 @@ use Rattle.std.proofs.lemmas.List.{length-map}
 use Rattle.settings.specs.declared.Settings.{Settings}
 use Rattle.turn_lock.specs.declared.note.Note.{Note}
 use Rattle.history.specs.declared.past.Past.{Past}
-use Rattle.history.specs.Entries.{History, newest, snap, IsAhead, IsKept, IsGone, oldest_kept}
+use Rattle.history.specs.Entries.{History, weight, newest, snap, IsAhead, IsKept, IsGone, oldest_kept}
+use Rattle.commit_graph.specs.Linked.{weight_of}
+use Rattle.history.specs.Prefixes.{grows, graph}
 use Rattle.book_model.specs.State.{State}
 use Rattle.snapshot.specs.declared.snapshot.Snapshot.{Snapshot}
 use Rattle.snapshot.specs.Snapshots.{StandsFor}
 use Rattle.book.specs.declared.build.Open.{Open}
 use Rattle.book.specs.declared.ledger.Counts.{Counts}
 use Rattle.book.specs.Books.{state_of, values_of, IsBook}
+use Rattle.book.proofs.Growing.{few-grows, graph-weight}
 use Rattle.book.proofs.Keeping.{kept-at}
 use Rattle.book.proofs.Books.{few_in_book, kept_in_book}
 
@@ -31,6 +34,16 @@ module _ {settings : Settings} {h : History} {callers : ℕ} {build : Option Ope
 
   pub imports_small : IsBook settings h callers build note counts kept → counts.imports ≤ 67108864
   imports_small b = let f = few_in_book settings h callers build note counts kept b in omega (arith, f.1, f.2, f.3)
+
+  pub grows_small : (key : List ℕ) → IsBook settings h callers build note counts kept → grows h key ≤ 67108864
+  grows_small key b = let f = few_in_book settings h callers build note counts kept b in let g = few-grows h key in omega (arith, f.1, f.2, f.3, b.imported, g)
+
+  pub graph_small : (s : State) (key : List ℕ) → state_of settings h callers build note ≡ s → IsBook settings h callers build note counts kept → weight_of (graph s.history key) ≤ 4294967296
+  graph_small s key view b =
+      let within : weight h ≤ settings.weight = b.sound.within in
+      let most : settings.weight ≤ 4294967296 = b.suits.weight in
+      let less : weight_of (graph h key) ≤ weight h = graph-weight h key in
+      subst (λ (x : State). weight_of (graph x.history key) ≤ 4294967296) view (omega (arith, less, within, most))
 
   pub used_small : IsBook settings h callers build note counts kept → (counts.used ≤ settings.weight) × (settings.weight ≤ 4294967296)
   used_small b = let f = few_in_book settings h callers build note counts kept b in (f.2, f.3)

@@ -4,23 +4,30 @@ use Rattle.std.specs.Prelude.{Option, Some, None, Ok, Err, nat_lt, IsNone, IfSom
 use Rattle.std.specs.Arc.{arc_value}
 use Rattle.std.specs.declared.sync.Arc.{Arc}
 use Rattle.std.proofs.Math.Seq.{take-length}
+use Rattle.osv_prim.specs.declared.oid.CommitRow.{CommitRow}
+use Rattle.osv_prim.specs.Graphs as of_rows
 use Rattle.osv_record.specs.Advisories.{Advisory}
-use Rattle.std.proofs.lemmas.List.{map-append, length-map, drop-map, length-drop}
+use Rattle.std.proofs.lemmas.List.{map-append, length-map, drop-map, take-map, length-drop, take-append-drop}
 use Rattle.std.proofs.lemmas.Grind.{take_at_read}
 use Rattle.settings.specs.declared.Settings.{Settings}
 use Rattle.turn_lock.specs.declared.note.Note.{Note}
 use Rattle.history.specs.declared.past.Past.{Past}
 use Rattle.history.specs.declared.past.Past.TheVariants.{Import, Publish}
 use Rattle.history.specs.Entries.{History, imports, newest, snap, weight, entry_weight, oldest_kept}
-use Rattle.history.proofs.Entries.{imports-append}
+use Rattle.commit_graph.specs.Linked.{weight_of}
+use Rattle.history.specs.Prefixes.{grows, graph}
+use Rattle.history.specs.Conditions.{IsOfVersion}
 use Rattle.book_model.specs.declared.answers.Kept.{Kept}
 use Rattle.book_model.specs.declared.answers.Pulled.TheVariants as pulled
 use Rattle.book_model.specs.State.{Kind, Plan, Assemble, State, published, opened, with_entry, with_build}
 use Rattle.book_model.specs.Jobs.{StandsIn, owner}
-use Rattle.book_model.specs.Steps.{GoesOut, Finds, FindsEach}
-use Rattle.book_model.proofs.Sound.{pulls-sound}
+use Rattle.book_model.specs.Steps.{HasRoom, IsFull, grown_by, GoesOut, Finds, FindsEach}
+use Rattle.book_model.specs.Sound.{IsSound}
+use Rattle.book_model.proofs.Sound.{imports-sound, grows-sound, pulls-sound}
 use Rattle.snapshot.specs.declared.snapshot.Snapshot.{Snapshot}
 use Rattle.snapshot.specs.declared.job.Job.{Job}
+use Rattle.impact_job.specs.declared.prefix.Prefix.{Prefix}
+use Rattle.impact_job.specs.Tables.{IsPrefixOf}
 use Rattle.snapshot.specs.Snapshots.{StandsFor}
 use Rattle.book.specs.Works.{work_of, name_of, is_work}
 use Rattle.snapshot.specs.Jobs.{name, IsJob, only}
@@ -28,23 +35,24 @@ use Rattle.book.specs.declared.entry.Entry.{Entry}
 use Rattle.book.specs.declared.build.Open.{Open}
 use Rattle.book.specs.declared.build.Stage.{Stage}
 use Rattle.book.specs.declared.ledger.Counts.{Counts}
-use Rattle.book.specs.Entries.{past, history_of}
+use Rattle.book.specs.Entries.{past, history_of, AreWhole}
 use Rattle.book.specs.declared.entry.Entry.TheVariants as entries
 use Rattle.book.specs.Builds.{phase_of, stage_work, build_with, build_of, IsUnderWay}
 use Rattle.book.specs.Books.{state_of, values_of, trimmed, AreKept, IsBook}
 use Rattle.book.proofs.Handing.{opens}
-use Rattle.book.proofs.Keeping.{newest-publish, kept-rest}
-use Rattle.book.proofs.Books.{book-build, book-imported, book-published, kept-published, opened-way}
+use Rattle.book.proofs.Keeping.{IsImport, import-is, grow-is, newest-publish, first_imports, kept-rest}
+use Rattle.book.proofs.Growing.{whole-drop}
+use Rattle.book.proofs.Repositories.{grow-exact}
+use Rattle.book.proofs.Books.{book-build, book-entered, book-published, kept-published, opened-way}
 
 -- ---- lists that are gone through
 
 -- one entry more
-pub imports_step : (es : List Entry) (i : ℕ) (d : Entry) (b : List Past) → i < length es → (b ++ imports (history_of (take i es))) ++ imports (past (get_or es i d) ∷ []) ≡ b ++ imports (history_of (take (i + 1) es))
-imports_step es i d b lt =
+pub later_step : (h : History) (es : List Entry) (i : ℕ) (d : Entry) → i < length es → (h ++ history_of (take i es)) ++ past (get_or es i d) ∷ [] ≡ h ++ history_of (take (i + 1) es)
+later_step h es i d lt =
     let front : take (i + 1) es ≡ take i es ++ get_or es i d ∷ [] = (take_at_read es i d lt).1 in
-    append_assoc b (imports (history_of (take i es))) (imports (past (get_or es i d) ∷ []))
-    ∙ ap (λ (xs : List Past). b ++ xs)
-    (sym (imports-append (history_of (take i es)) (past (get_or es i d) ∷ [])) ∙ ap imports (sym (map-append past (take i es) (get_or es i d ∷ [])) ∙ ap (λ (xs : List Entry). map past xs) (sym front)))
+    append_assoc h (history_of (take i es)) (past (get_or es i d) ∷ [])
+    ∙ ap (λ (x : History). h ++ x) (sym (map-append past (take i es) (get_or es i d ∷ [])) ∙ ap (λ (xs : List Entry). map past xs) (sym front))
 
 pub finds_push : {S : Type 0} (st : S → List Past → Type 0) (s : State) (ns : List ℕ) (fs : List (Kept S)) (n : ℕ) (f : Kept S) → FindsEach st s ns fs → Finds st s n f → FindsEach st s (ns ++ n ∷ []) (fs ++ f ∷ [])
 finds_push st s [] [] n f h g = (g, tt)
@@ -61,7 +69,7 @@ finds_step {S = S} st s ns i fs f lt h g =
 
 module _ {settings : Settings} {h : History} {callers : ℕ} {note : Note} {counts : Counts} {kept : List Snapshot} where
   pub opening : (by place : ℕ) (stage : Stage) (job : Job) → by < callers → published h < length (imports h) → place ≡ length h → work_of job ≡ stage_work (counts.newest + 1) stage → phase_of stage ≡ Plan
-      → is_work (stage_work (counts.newest + 1) stage) (snap h (newest h)) (snap h (newest h) ++ imports (drop counts.after h))
+      → is_work (stage_work (counts.newest + 1) stage) (snap h (newest h)) (imports h)
       → ((b p : List Past) → is_work (stage_work (counts.newest + 1) stage) b p → (name_of (stage_work (counts.newest + 1) stage)).upto ≡ length p)
       → IsBook settings h callers None note counts kept
       → (GoesOut name IsJob by (state_of settings h callers None note) (opened (length (imports h))) job (state_of settings h callers (Some (record { upto = counts.imports; place = place; stage = stage; owner = Some by })) note))
@@ -117,16 +125,29 @@ module _ {settings : Settings} {h : History} {callers : ℕ} {note : Note} {coun
 pub finds_pushed : {S : Type 0} (st : S → List Past → Type 0) (s : State) (ns : List ℕ) (i : ℕ) (fs now : List (Kept S)) (f : Kept S) → i < length ns → now ≡ fs ++ f ∷ [] → FindsEach st s (take i ns) fs → Finds st s (get_or ns i 0) f → FindsEach st s (take (i + 1) ns) now
 finds_pushed {S = S} st s ns i fs now f lt is h g = subst (λ (xs : List (Kept S)). FindsEach st s (take (i + 1) ns) xs) (sym is) (finds_step st s ns i fs f lt h g)
 
--- the entries after the first so many
-pub later_is : (all es : List Entry) (after : ℕ) → all ≡ es → imports (history_of (take (length all - after) (drop after all))) ≡ imports (drop after (history_of es))
-later_is all es after is =
-    let long : length (drop after all) ≡ length all - after = length-drop after all in
-    ap (λ (n : ℕ). imports (history_of (take n (drop after all)))) (sym long) ∙ ap (λ (xs : List Entry). imports (history_of xs)) (take-length (drop after all))
-    ∙ ap (λ (xs : List Entry). imports (history_of (drop after xs))) is ∙ ap imports (sym (drop-map past after es))
+-- the prefix over the newest snapshot and the entries that came since
+pub prefix_way : {settings : Settings} {callers : ℕ} {build : Option Open} {note : Note} {counts : Counts} {kept : List Snapshot} (es all : List Entry) (x : Prefix) (base : Snapshot)
+    → all ≡ es → IsBook settings (history_of es) callers build note counts kept → AreWhole [] es → StandsFor base (snap (history_of es) (newest (history_of es)))
+    → ((h : History) → StandsFor base (imports h) → AreWhole h (take (length all - counts.after) (drop counts.after all)) → IsPrefixOf x (imports h) (imports (h ++ history_of (take (length all - counts.after) (drop counts.after all)))))
+    → IsPrefixOf x (snap (history_of es) (newest (history_of es))) (imports (history_of es))
+prefix_way {counts = counts} es all x base is b whole st over =
+    let h : History = history_of (take counts.after es) in
+    let long : length (drop counts.after all) ≡ length all - counts.after = length-drop counts.after all in
+    let later : take (length all - counts.after) (drop counts.after all) ≡ drop counts.after es =
+    ap (λ (n : ℕ). take n (drop counts.after all)) (sym long) ∙ take-length (drop counts.after all) ∙ ap (λ (xs : List Entry). drop counts.after xs) is in
+    let before : snap (history_of es) (newest (history_of es)) ≡ imports (history_of (take counts.after es)) =
+    first_imports (history_of es) counts.after (published (history_of es)) (b.reached ∙ b.published_is) ∙ ap imports (take-map past counts.after es) in
+    let both : history_of (take counts.after es) ++ history_of (drop counts.after es) ≡ history_of es =
+    sym (map-append past (take counts.after es) (drop counts.after es)) ∙ ap (λ (xs : List Entry). map past xs) (take-append-drop counts.after es) in
+    let rest : AreWhole (history_of (take counts.after es)) (take (length all - counts.after) (drop counts.after all)) =
+    subst (λ (xs : List Entry). AreWhole (history_of (take counts.after es)) xs) (sym later) (whole-drop [] es counts.after whole) in
+    let made = over (history_of (take counts.after es)) (subst (λ (p : List Past). StandsFor base p) before st) rest in
+    subst (λ (p : List Past). IsPrefixOf x p (imports (history_of es))) (sym before)
+    (subst (λ (y : History). IsPrefixOf x (imports (history_of (take counts.after es))) (imports y)) (ap (λ (xs : List Entry). history_of (take counts.after es) ++ history_of xs) later ∙ both) made)
 
 open_step : (settings : Settings) (callers : ℕ) (note : Note) (counts : Counts) (kept : List Snapshot) (es : List Entry) (by place : ℕ) (stage : Stage) (job : Job)
     → place ≡ length es → work_of job ≡ stage_work (counts.newest + 1) stage → phase_of stage ≡ Plan
-    → is_work (stage_work (counts.newest + 1) stage) (snap (history_of es) (newest (history_of es))) (snap (history_of es) (newest (history_of es)) ++ imports (drop counts.after (history_of es)))
+    → is_work (stage_work (counts.newest + 1) stage) (snap (history_of es) (newest (history_of es))) (imports (history_of es))
     → ((b p : List Past) → is_work (stage_work (counts.newest + 1) stage) b p → (name_of (stage_work (counts.newest + 1) stage)).upto ≡ length p)
     → (build : Option Open) → IsBook settings (history_of es) callers build note counts kept → IsNone (build_of build) → by < callers → published (history_of es) < length (imports (history_of es))
     → GoesOut name IsJob by (state_of settings (history_of es) callers build note) (opened (length (imports (history_of es)))) job (state_of settings (history_of es) callers (Some (record { upto = counts.imports; place = place; stage = stage; owner = Some by })) note)
@@ -138,12 +159,14 @@ open_step settings callers note counts kept es by place stage job end work plan 
 module _ {settings : Settings} {callers : ℕ} {build : Option Open} {note : Note} {counts : Counts} (es : List Entry) where
   pub open_book : {kept : List Snapshot} (s : State) (now : List Entry) (by place : ℕ) (stage : Stage) (job : Job) → state_of settings (history_of es) callers build note ≡ s → now ≡ es → place ≡ length now
       → work_of job ≡ stage_work (counts.newest + 1) stage → phase_of stage ≡ Plan
-      → is_work (stage_work (counts.newest + 1) stage) (snap (history_of es) (newest (history_of es))) (snap (history_of es) (newest (history_of es)) ++ imports (drop counts.after (history_of es)))
+      → is_work (stage_work (counts.newest + 1) stage) (snap s.history (newest s.history)) (imports s.history)
       → ((b p : List Past) → is_work (stage_work (counts.newest + 1) stage) b p → (name_of (stage_work (counts.newest + 1) stage)).upto ≡ length p)
       → IsBook settings (history_of es) callers build note counts kept → IsNone s.build → by < s.callers → published s.history < length (imports s.history)
       → GoesOut name IsJob by s (opened (length (imports s.history))) job (state_of settings (history_of now) callers (Some (record { upto = counts.imports; place = place; stage = stage; owner = Some by })) note)
       × IsBook settings (history_of now) callers (Some (record { upto = counts.imports; place = place; stage = stage; owner = Some by })) note counts kept
-  open_book {kept = kept} s now by place stage job view same end work plan is upto b =
+  open_book {kept = kept} s now by place stage job view same end work plan made upto b =
+      let is : is_work (stage_work (counts.newest + 1) stage) (snap (history_of es) (newest (history_of es))) (imports (history_of es)) =
+      subst (λ (x : State). is_work (stage_work (counts.newest + 1) stage) (snap x.history (newest x.history)) (imports x.history)) (sym view) made in
       let at : (place ≡ length es) → IsNone (build_of build) → by < callers → published (history_of es) < length (imports (history_of es))
       → GoesOut name IsJob by (state_of settings (history_of es) callers build note) (opened (length (imports (history_of es)))) job (state_of settings (history_of es) callers (Some (record { upto = counts.imports; place = place; stage = stage; owner = Some by })) note)
       × IsBook settings (history_of es) callers (Some (record { upto = counts.imports; place = place; stage = stage; owner = Some by })) note counts kept =
@@ -160,27 +183,58 @@ module _ {settings : Settings} {callers : ℕ} {build : Option Open} {note : Not
 
   -- ---- an import
 
-  pub import_full : {kept : List Snapshot} (s : State) (by w : ℕ) (r : Advisory) → state_of settings (history_of es) callers build note ≡ s → w ≡ entry_weight (Import by r) → settings.weight - counts.used < w → IsBook settings (history_of es) callers build note counts kept
-      → (s.settings.weight < weight s.history + entry_weight (Import by r)) × (counts.used ≡ weight s.history) × (settings.weight ≡ s.settings.weight)
-  import_full s by w r view is over b =
-      subst (λ (x : State). (x.settings.weight < weight x.history + entry_weight (Import by r)) × (counts.used ≡ weight x.history) × (settings.weight ≡ x.settings.weight)) view
-      (let used : counts.used ≡ weight (history_of es) = b.used in (omega (arith, used, is, over), used, refl))
+  pub import_full : {kept : List Snapshot} (s : State) (e : Past) (w : ℕ) → state_of settings (history_of es) callers build note ≡ s → w ≤ entry_weight e → settings.weight - counts.used < w → IsBook settings (history_of es) callers build note counts kept
+      → IsFull s e counts.used settings.weight
+  import_full s e w view le over b =
+      subst (λ (x : State). IsFull x e counts.used settings.weight) view (let used : counts.used ≡ weight (history_of es) = b.used in (omega (arith, used, le, over), used, refl))
 
-  pub import_room : {kept : List Snapshot} (s : State) (by w : ℕ) (r : Advisory) → state_of settings (history_of es) callers build note ≡ s → w ≡ entry_weight (Import by r) → w ≤ settings.weight - counts.used → IsBook settings (history_of es) callers build note counts kept
-      → weight s.history + entry_weight (Import by r) ≤ s.settings.weight
-  import_room s by w r view is room b =
-      subst (λ (x : State). weight x.history + entry_weight (Import by r) ≤ x.settings.weight) view
+  pub import_room : {kept : List Snapshot} (s : State) (e : Past) (w : ℕ) → state_of settings (history_of es) callers build note ≡ s → w ≡ entry_weight e → w ≤ settings.weight - counts.used → IsBook settings (history_of es) callers build note counts kept
+      → HasRoom s e
+  import_room s e w view is room b =
+      subst (λ (x : State). HasRoom x e) view
       (let used : counts.used ≡ weight (history_of es) = b.used in let within : weight (history_of es) ≤ settings.weight = b.sound.within in omega (arith, used, is, room, within))
 
-  pub import_book : {kept : List Snapshot} {Z : Type 0} (s : State) (now : List Entry) (by w : ℕ) (a : Arc Advisory Z) → state_of settings (history_of es) callers build note ≡ s → w ≡ entry_weight (Import by (arc_value a)) → w ≤ settings.weight - counts.used
-      → history_of now ≡ history_of es ++ Import by (arc_value a) ∷ [] → by < s.callers → IsBook settings (history_of es) callers build note counts kept
+  -- the sound state with one import more
+  entered_book : {kept : List Snapshot} (now : List Entry) (e : Past) (w : ℕ) → IsImport e → w ≡ entry_weight e → w ≤ settings.weight - counts.used → history_of now ≡ history_of es ++ e ∷ []
+      → (HasRoom (state_of settings (history_of es) callers build note) e → IsSound (state_of settings (history_of es ++ e ∷ []) callers build note)) → IsBook settings (history_of es) callers build note counts kept
       → IsBook settings (history_of now) callers build note (record { imports = counts.imports + 1; used = counts.used + w; newest = counts.newest; published = counts.published; after = counts.after }) kept
-  import_book {kept = kept} s now by w a view is room same lt b =
-      let below : by < callers = subst (λ (x : State). by < x.callers) (sym view) lt in
-      let used : counts.used ≡ weight (history_of es) = b.used in
-      let within : weight (history_of es) ≤ settings.weight = b.sound.within in
+  entered_book {kept = kept} now e w i is room same sound b =
       subst (λ (x : History). IsBook settings x callers build note (record { imports = counts.imports + 1; used = counts.used + w; newest = counts.newest; published = counts.published; after = counts.after }) kept) (sym same)
-      (book-imported settings (history_of es) callers build note counts kept by w (arc_value a) below is (omega (arith, used, within, room)) b)
+      (book-entered settings (history_of es) callers build note counts kept e w i (sound (import_room (state_of settings (history_of es) callers build note) e w refl is room b)) is b)
+
+  pub import_book : {kept : List Snapshot} (s : State) (now : List Entry) (by w : ℕ) (r : Advisory) → state_of settings (history_of es) callers build note ≡ s → w ≡ entry_weight (Import by r) → w ≤ settings.weight - counts.used
+      → history_of now ≡ history_of es ++ Import by r ∷ [] → by < s.callers → IsBook settings (history_of es) callers build note counts kept
+      → IsBook settings (history_of now) callers build note (record { imports = counts.imports + 1; used = counts.used + w; newest = counts.newest; published = counts.published; after = counts.after }) kept
+  import_book s now by w r view is room same lt b =
+      let below : by < callers = subst (λ (x : State). by < x.callers) (sym view) lt in
+      let old : State = state_of settings (history_of es) callers build note in
+      let new : State = state_of settings (history_of es ++ Import by r ∷ []) callers build note in
+      entered_book now (Import by r) w (import-is by r) is room same (λ has. imports-sound by r (state_of settings (history_of es) callers build note) (state_of settings (history_of es ++ Import by r ∷ []) callers build note) (Ok (length (history_of es))) below b.sound (has, refl, refl)) b
+
+  -- where a Grow has room, its version is the number of Grows and its weight the one that was found
+  pub grow_room : {kept : List Snapshot} (s : State) (by : ℕ) (key : List ℕ) (version n : ℕ) (rows g : List CommitRow) (before w : ℕ) → state_of settings (history_of es) callers build note ≡ s
+      → version ≡ n → n ≡ grows s.history key → IsOfVersion key version rows s.history → g ≡ rows → before ≡ weight_of (graph s.history key)
+      → (before ≤ 4294967296 → w ≤ 4294967296 → w ≡ 64 + length key + (weight_of g - before)) → w ≤ settings.weight - counts.used → IsBook settings (history_of es) callers build note counts kept
+      → (version ≡ grows s.history key) × (w ≡ entry_weight (grown_by by key rows s.history)) × HasRoom s (grown_by by key rows s.history)
+  grow_room s by key version n rows g before w view is count of_version same at exact room b =
+      let now : version ≡ grows s.history key = is ∙ count in
+      let found : before ≤ 4294967296 → w ≤ 4294967296 → w ≡ 64 + length key + (weight_of rows - before) =
+      (λ small less. exact small less ∙ ap (λ (x : List CommitRow). 64 + length key + (weight_of x - before)) same) in
+      let weighs : w ≡ entry_weight (grown_by by key rows s.history) =
+      grow-exact es s.history by key version rows (ap (λ (x : State). x.history) view) (is ∙ count) of_version before w at found room b in
+      (now, weighs, import_room s (grown_by by key rows s.history) w view weighs room b)
+
+  pub grow_book : {kept : List Snapshot} (s : State) (now : List Entry) (by : ℕ) (key : List ℕ) (version : ℕ) (rows : List CommitRow) (w : ℕ) → state_of settings (history_of es) callers build note ≡ s
+      → version ≡ grows s.history key → IsOfVersion key version rows s.history → of_rows.IsLegal rows → w ≡ entry_weight (grown_by by key rows s.history) → w ≤ settings.weight - counts.used
+      → history_of now ≡ history_of es ++ grown_by by key rows s.history ∷ [] → by < s.callers → IsBook settings (history_of es) callers build note counts kept
+      → IsBook settings (history_of now) callers build note (record { imports = counts.imports + 1; used = counts.used + w; newest = counts.newest; published = counts.published; after = counts.after }) kept
+  grow_book {kept = kept} s now by key version rows w view =
+      subst (λ (x : State). version ≡ grows x.history key → IsOfVersion key version rows x.history → of_rows.IsLegal rows → w ≡ entry_weight (grown_by by key rows x.history) → w ≤ settings.weight - counts.used
+      → history_of now ≡ history_of es ++ grown_by by key rows x.history ∷ [] → by < x.callers → IsBook settings (history_of es) callers build note counts kept
+      → IsBook settings (history_of now) callers build note (record { imports = counts.imports + 1; used = counts.used + w; newest = counts.newest; published = counts.published; after = counts.after }) kept) view
+      (λ same_version of_version legal is room same lt b.
+      entered_book now (grown_by by key rows (history_of es)) w (grow-is by key (drop (length (graph (history_of es) key)) rows)) is room same
+      (λ has. grows-sound by key version rows (state_of settings (history_of es) callers build note) (state_of settings (history_of es ++ grown_by by key rows (history_of es) ∷ []) callers build note) (Ok (length (history_of es))) lt legal of_version b.sound (same_version, (has, refl, refl))) b)
 
 -- one entry more
 pub pushed_history : (now mid es : List Entry) (e : Entry) → now ≡ mid ++ e ∷ [] → mid ≡ es → history_of now ≡ history_of es ++ past e ∷ []

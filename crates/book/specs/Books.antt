@@ -3,7 +3,8 @@ use Rattle.std.specs.Prelude.{◌≡◌, ℕ, ◌+◌, ◌<◌, ◌≤◌, if◌
 use Rattle.std.specs.Arc.{arc_value}
 use Rattle.std.specs.declared.sync.Arc.{Arc}
 use Rattle.settings.specs.declared.Settings.{Settings}
-use Rattle.settings.specs.Ranges.{AreInRange}
+use Rattle.settings.specs.Ranges.{IsBetween}
+use Rattle.settings.specs.declared.TheConstants.{MAX_KEEP, MAX_WEIGHT}
 use Rattle.turn_lock.specs.declared.note.Note.{Note}
 use Rattle.history.specs.Entries.{History, imports, newest, snap, weight, oldest_kept}
 use Rattle.book_model.specs.State.{State, published}
@@ -29,10 +30,15 @@ AreKept h s (x ∷ xs) = StandsFor x (snap h s) × AreKept h (s + 1) xs
 abbrev pub trimmed : {X : Type 0} → ℕ → List X → List X
 trimmed keep xs = if nat_lt keep (length xs) then drop 1 xs else xs
 
+-- Settings with which a book can be kept: of how many snapshots are kept and what entries may weigh. The others, as the hits on a page, are of no matter to it.
+pub record SuitsBook (settings : Settings) : Type 0 where
+  pub keep : IsBetween 1 MAX_KEEP settings.keep
+  pub weight : settings.weight ≤ MAX_WEIGHT
+
 -- What is counted and kept is what the history says.
 pub record IsBook (settings : Settings) (h : History) (callers : ℕ) (build : Option Open) (note : Note) (counts : Counts) (kept : List Snapshot) : Type 0 where
   pub sound : IsSound (state_of settings h callers build note)
-  pub range : AreInRange settings
+  pub suits : SuitsBook settings
   pub imported : counts.imports ≡ length (imports h)
   pub used : counts.used ≡ weight h
   pub newest_is : counts.newest ≡ newest h

@@ -1,11 +1,11 @@
 ghost use Rattle.std.specs.Prelude.{◌≡◌, ◌++◌, ◌∷◌, [], ℕ, List, IfOk, OnOk};
 ghost use Rattle.history.specs.declared.past.Past.{Past};
-ghost use Rattle.history.specs.Entries.{imports};
+ghost use Rattle.history.specs.Entries.{History, imports};
 ghost use Rattle.snapshot.specs.Snapshots.{StandsFor};
 ghost use Rattle.impact_job.specs.Tables.{IsPrefixOf};
 ghost use Rattle.std.specs.Arc.{arc_value};
 ghost use Rattle.book.specs.Works.{work_of};
-ghost use Rattle.book.specs.Entries.{past, history_of};
+ghost use Rattle.book.specs.Entries.{past, history_of, IsWhole, AreWhole};
 ghost use Rattle.book.specs.Builds.{stage_work};
 
 use crate::entry::Entry;
@@ -56,13 +56,18 @@ pub(crate) fn job_of(build: u64, stage: &Stage) -> Result<Job, Memory>
 }
 
 // One entry more, which the prefix has where it is an import.
-fn add(prefix: &mut Prefix, entry: &Entry) -> Result<(), Memory>
-    ensures { OnOk result ((b p : List Past) → IsPrefixOf prefix.old b p → IsPrefixOf prefix.new b (p ++ imports (past entry.now ∷ []))) }
+fn add(alloc: Global, prefix: &mut Prefix, entry: &Entry) -> Result<(), Memory>
+    ensures { OnOk result ((b : List Past) (h : History) → IsPrefixOf prefix.old b (imports h) → IsWhole h entry.now → IsPrefixOf prefix.new b (imports (h ++ past entry.now ∷ []))) }
 {
     match entry {
         Entry::Import { advisory, .. } => {
             let advisory = Arc::try_clone(advisory)?;
             prefix.import(advisory)
+        }
+        Entry::Grow { key, graph, .. } => {
+            let owned = key.copy(alloc)?;
+            let shared = Arc::try_clone(graph)?;
+            prefix.grow(owned, shared)
         }
         Entry::Publish { .. } => Ok(()),
     }
@@ -76,17 +81,17 @@ fn begun(alloc: Global, base: &Snapshot) -> Result<Prefix, Memory>
     Ok(Prefix::over(alloc, tables))
 }
 
-/// The imports of a snapshot, and after them those among later entries.
+/// The imports of a snapshot, which are those of the entries before, and after them those among later ones.
 pub(crate) fn prefix_over(
     alloc: Global,
     base: &Arc<Snapshot>,
     later: &[Entry],
 ) -> Result<Prefix, Memory>
-    ensures { (b : List Past) → StandsFor (arc_value base.now) b → IfOk result (λ x. IsPrefixOf x b (b ++ imports (history_of later.now))) }
+    ensures { (h : History) → StandsFor (arc_value base.now) (imports h) → AreWhole h later.now → IfOk result (λ x. IsPrefixOf x (imports h) (imports (h ++ history_of later.now))) }
 {
     let mut prefix = begun(alloc, base)?;
     for entry in later {
-        add(&mut prefix, entry)?;
+        add(alloc, &mut prefix, entry)?;
     }
     Ok(prefix)
 }

@@ -1,22 +1,27 @@
 ghost use Rattle.std.specs.Prelude.{◌≡◌, ◌<◌, ◌≤◌, ℕ, length, IfOk, IsNone};
 ghost use Rattle.std.specs.Arc.{arc_value};
-ghost use Rattle.settings.specs.Ranges.{AreInRange};
 ghost use Rattle.history.specs.declared.past.Past.TheVariants.{Import};
-ghost use Rattle.history.specs.Entries.{entry_weight, imports};
+ghost use Rattle.history.specs.Entries.{entry_weight, imports, newest, snap};
 ghost use Rattle.book_model.specs.State.{State, opening, noted, published, out_count, cells_in};
 ghost use Rattle.book_model.specs.Steps.{Enrols, CountsImports, Imports, Pulls, Takes};
 ghost use Rattle.book_model.specs.Sound.{IsSound};
+ghost use Rattle.impact_job.specs.Tables.{IsPrefixOf};
 ghost use Rattle.snapshot.specs.Jobs.{name, IsJob};
+ghost use Rattle.book.specs.Entries.{history_of};
+ghost use Rattle.book.specs.Books.{SuitsBook};
 ghost use Rattle.book.specs.Handing.{HandsOut, Opens};
 
 use crate::build::{Open, Stage, job_of, prefix_over};
 use crate::entry::Entry;
+use crate::repos::Repo;
 use book_desk::{CallersSpent, ImportFault, Pulled, Taken};
-use osv_prim::Memory;
+use impact_job::Prefix;
+use osv_prim::{Memory, RepoKey};
 use osv_record::Record;
 use settings::Settings;
 use snapshot::{Job, Snapshot};
 use std::alloc::Global;
+use std::collections::HashMap;
 use std::marker::Model;
 use std::sync::Arc;
 use turn_lock::{Note, Noted};
@@ -43,6 +48,7 @@ pub struct Book {
     pub(crate) settings: Settings,
     pub(crate) entries: Vec<Entry>,
     pub(crate) kept: Vec<Arc<Snapshot>>,
+    pub(crate) repos: HashMap<RepoKey, Repo>,
     pub(crate) build: Option<Open>,
     pub(crate) callers: u64,
     pub(crate) note: Note,
@@ -50,9 +56,12 @@ pub struct Book {
 }
 
 impl Model for Book {
-    ghost use Rattle.std.specs.Prelude.{◌+◌, ◌<◌, ◌≤◌, IfSome, vec_len, vec_capacity};
+    ghost use Rattle.std.specs.Prelude.{◌+◌, ◌<◌, ◌≤◌, [], IfSome, vec_len, vec_capacity};
     ghost use Rattle.book_model.specs.State.{State};
-    ghost use Rattle.book.specs.Entries.{history_of};
+    ghost use Rattle.std.specs.HashMap.{get};
+    ghost use Rattle.std.specs.Str.{bytes_eq};
+    ghost use Rattle.book.specs.Entries.{history_of, AreWhole};
+    ghost use Rattle.book.specs.Repos.{AreRepos};
     ghost use Rattle.book.specs.Books.{state_of, values_of, IsBook};
 
     ghost Value = { State };
@@ -60,7 +69,8 @@ impl Model for Book {
     ghost view = { λ b. state_of b.settings (history_of b.entries.items) b.callers b.build b.note };
 
     ghost invariant = { λ b. IsBook b.settings (history_of b.entries.items) b.callers b.build b.note b.counts (values_of b.kept.items)
-        × (b.settings.keep + 1 ≤ vec_capacity b.kept) × IfSome b.build (λ _. vec_len b.entries < vec_capacity b.entries) };
+        × (b.settings.keep + 1 ≤ vec_capacity b.kept) × IfSome b.build (λ _. vec_len b.entries < vec_capacity b.entries)
+        × AreRepos (history_of b.entries.items) (get bytes_eq b.repos) × AreWhole [] b.entries.items };
 }
 
 // What an advisory weighs: 64 bytes, its text, and 64 for each GIT range.
@@ -71,9 +81,10 @@ fn weight_of(advisory: &Record) -> u64
 }
 
 impl Book {
-    /// A book with no entry and no caller; its snapshot 0 is empty.
+    /// A book with no entry and no caller; its snapshot 0 is empty. It keeps from 1 to 1,000 snapshots,
+    /// and its entries may weigh at most 4,294,967,296 bytes. The other settings are of no matter to it.
     pub fn new(alloc: Global, settings: Settings) -> Result<Book, Memory>
-        requires { AreInRange settings }
+        requires { SuitsBook settings }
         ensures { IfOk result (λ book. book ≡ opening settings) }
     {
         let mut kept = Vec::with_capacity(alloc, settings.keep as usize + 1)?;
@@ -98,6 +109,7 @@ impl Book {
             settings,
             entries: Vec::new(alloc),
             kept,
+            repos: HashMap::new(alloc),
             build: None,
             callers: 0,
             note,
@@ -111,6 +123,13 @@ impl Book {
         ensures sound { IsSound self.now }
     {
         self.entries.len() as u64
+    }
+
+    /// The entries, in their order.
+    pub fn entries(&self) -> &[Entry]
+        ensures { history_of result.now ≡ self.now.history }
+    {
+        self.entries.as_slice()
     }
 
     /// The last answer that the history doesn't show.
@@ -194,6 +213,16 @@ impl Book {
         }
     }
 
+    // All imports, over those of the newest snapshot.
+    fn prefix(&self) -> Result<Prefix, Memory>
+        ensures { IfOk result (λ x. IsPrefixOf x (snap self.now.history (newest self.now.history)) (imports self.now.history)) }
+    {
+        let base = &self.kept[self.kept.len() - 1];
+        let later = &self.entries[self.counts.after as usize..];
+        let prefix = prefix_over(self.alloc, base, later)?;
+        Ok(prefix)
+    }
+
     // Opens a build over all imports, and gives its first job to the caller.
     fn open(&mut self, by: u64) -> Result<Job, Memory>
         requires given { by < self.old.callers }
@@ -201,12 +230,7 @@ impl Book {
         requires more { published self.old.history < length (imports self.old.history) }
         ensures { Opens by self.old result self.new }
     {
-        let base = &self.kept[self.kept.len() - 1];
-        let prefix = prefix_over(
-            self.alloc,
-            base,
-            &self.entries[self.counts.after as usize..],
-        )?;
+        let prefix = self.prefix()?;
         let stage = Stage::Plan(Arc::new(self.alloc, prefix)?);
         let job = job_of(self.counts.newest + 1, &stage)?;
         self.entries.reserve(1)?;

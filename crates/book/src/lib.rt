@@ -1,4 +1,5 @@
-//! The book of a service: its history, the build that is open, and the snapshots that are kept.
+//! The book of a service: its history, the graphs of repositories, the build that is open, and the snapshots
+//! that are kept.
 //!
 //! ```
 //! let mut book = Book::new(alloc, settings)?;
@@ -15,6 +16,7 @@ mod entry;
 mod finish;
 mod ledger;
 mod look;
+mod repos;
 mod stored;
 
 pub use entry::Entry;

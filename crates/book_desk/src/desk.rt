@@ -2,13 +2,15 @@ ghost use Rattle.std.specs.Prelude.{◌≡◌, ◌≤◌, ℕ, List, length, vec
 ghost use Rattle.std.specs.Arc.{arc_value};
 ghost use Rattle.history.specs.Entries.{imports};
 ghost use Rattle.book_model.specs.Jobs.{JobHolds, FinishedHolds};
-ghost use Rattle.book_model.specs.Steps.{CountsImports, Imports, Looks, Pulls, Takes, Finishes, GivesBack};
+ghost use Rattle.history.specs.Conditions.{IsOfVersion};
+ghost use Rattle.book_model.specs.Steps.{CountsImports, Imports, ShowsRepo, Grows, Looks, Pulls, Takes, Finishes, GivesBack};
 ghost use Rattle.snapshot.specs.Jobs.{name, outcome, IsJob, IsDone};
 ghost use Rattle.snapshot.specs.Snapshots.{StandsFor};
-ghost use Rattle.book_model.specs.Desk.{Caller, IsEvent, IsKnown, CountsStay, CountsTurn, CountsPull};
+ghost use Rattle.book_model.specs.Desk.{Caller, IsEvent, IsKnown, CountsStay, CountsTurn, CountsPull, CountsGrow};
 
-use book_model::{ImportFault, Progress, Strange};
-use osv_prim::Memory;
+use book_model::{GrowFault, ImportFault, Progress, Strange};
+use commit_graph::Graph;
+use osv_prim::{Memory, RepoKey};
 use osv_record::Record;
 use snapshot::{Finished, Job, Snapshot};
 use std::sync::Arc;
@@ -28,8 +30,8 @@ pub type Newest = book_model::Newest<Arc<Snapshot>>;
 /// One caller's way to a book. Each call but `me` and `point` is one step of the book, at a history that
 /// begins with what the caller knew; what the step does and which counts it raises, its two clauses say.
 ///
-/// No call takes a counter of steps, so none can read the rows of a graph. Repositories and their graphs
-/// come later.
+/// No call takes a counter of steps, so none can read the rows of a graph: graphs are handed out and in
+/// whole, and made by the caller.
 pub trait Desk {
     // what contracts know of the caller
     ghost caller: { Self → Caller };
@@ -52,6 +54,20 @@ pub trait Desk {
     fn import(&mut self, advisory: Arc<Record>) -> Result<u64, ImportFault>
         ensures acts { IsEvent (λ s t. Imports (caller self.old).me (arc_value advisory) s result t) (caller self.old) (caller self.new) }
         ensures counts { CountsStay (caller self.old) (caller self.new) };
+
+    /// How many Grows a repository has, and its graph. Where it has none these are 0 and the graph without
+    /// commits.
+    fn repo(&mut self, key: &RepoKey) -> Result<(u64, Arc<Graph>), Memory>
+        ensures acts { IsEvent (λ s t. ShowsRepo (λ a. arc_value a) key.now s result t) (caller self.old) (caller self.new) }
+        ensures counts { CountsStay (caller self.old) (caller self.new) };
+
+    /// Adds the rows that a graph has beyond that of a repository, and gives the place of their entry, from
+    /// 0. The graph was made over the first `version` Grows of the repository: where it has another number of
+    /// them, it has moved.
+    fn grow(&mut self, key: RepoKey, version: u64, graph: Arc<Graph>) -> Result<u64, GrowFault>
+        requires { IsOfVersion key version (arc_value graph) (caller self.old).front }
+        ensures acts { IsEvent (λ s t. Grows (caller self.old).me key version (arc_value graph) s result t) (caller self.old) (caller self.new) }
+        ensures counts { CountsGrow result (caller self.old) (caller self.new) };
 
     /// The newest snapshot, and in `found` what each number finds. After want of memory `found` is empty.
     fn look(&mut self, numbers: &[u64], found: &mut Vec<Kept>) -> Result<Newest, Memory>

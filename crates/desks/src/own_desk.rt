@@ -1,5 +1,4 @@
 ghost use Rattle.std.specs.Prelude.{◌≡◌, ◌<◌, ◌≤◌, ℕ, length, None, IfOk, vec_len, vec_capacity};
-ghost use Rattle.settings.specs.Ranges.{AreInRange};
 ghost use Rattle.turn_lock.specs.History.{saturating_next};
 ghost use Rattle.history.specs.Entries.{imports};
 ghost use Rattle.book_model.specs.State.{first_note};
@@ -7,11 +6,13 @@ ghost use Rattle.book_model.specs.Jobs.{JobHolds, FinishedHolds};
 ghost use Rattle.book_model.specs.Sound.{IsSound};
 ghost use Rattle.book_model.specs.Desk.{turned};
 ghost use Rattle.snapshot.specs.Jobs.{name, IsJob, outcome, IsDone};
+ghost use Rattle.book.specs.Books.{SuitsBook};
 ghost use Rattle.desks.specs.Alone.{alone_with, new_caller};
 
 use book::Book;
-use book_desk::{Desk, ImportFault, Kept, Newest, Progress, Pulled, Strange, Taken};
-use osv_prim::Memory;
+use book_desk::{Desk, GrowFault, ImportFault, Kept, Newest, Progress, Pulled, Strange, Taken};
+use commit_graph::Graph;
+use osv_prim::{Memory, RepoKey};
 use osv_record::Record;
 use settings::Settings;
 use snapshot::{Finished, Job};
@@ -31,9 +32,10 @@ pub struct OwnDesk {
 }
 
 impl OwnDesk {
-    /// A desk over a book with no entry, in which its caller has the number 0.
+    /// A desk over a book with no entry, in which its caller has the number 0. Of the settings it asks what
+    /// the book does.
     pub fn new(alloc: Global, settings: Settings) -> Result<OwnDesk, Memory>
-        requires { AreInRange settings }
+        requires { SuitsBook settings }
         ensures { IfOk result (λ d. alone_with d.book d.busy d.turns d.outs d.last ≡ new_caller settings) }
     {
         let mut book = Book::new(alloc, settings)?;
@@ -95,6 +97,23 @@ impl Desk for OwnDesk {
         let found = self.book.note();
         let answer = self.book.import(0, advisory);
         self.turn(found);
+        answer
+    }
+
+    fn repo(&mut self, key: &RepoKey) -> Result<(u64, Arc<Graph>), Memory> {
+        let found = self.book.note();
+        let answer = self.book.repo(key);
+        self.turn(found);
+        answer
+    }
+
+    fn grow(&mut self, key: RepoKey, version: u64, graph: Arc<Graph>) -> Result<u64, GrowFault> {
+        let found = self.book.note();
+        let answer = self.book.grow(0, key, version, graph);
+        self.turn(found);
+        if let Err(GrowFault::RepoMoved { .. }) = &answer {
+            self.busy = self.busy.saturating_add(1);
+        }
         answer
     }
 
