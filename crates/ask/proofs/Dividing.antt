@@ -1,5 +1,5 @@
 -- Reading line after line up to the one that names a repository.
-use Rattle.std.proofs.Common.{◌≡◌, ℕ, List, [], ◌∷◌, ◌++◌, Option, Some, None, option_map, Result, Ok, refl, sym, ap, subst, ◌∙◌}
+use Rattle.std.proofs.Common.{◌≡◌, ℕ, List, [], ◌∷◌, ◌++◌, Option, Some, None, option_map, Ok, refl, sym, ap, subst, ◌∙◌}
 use Rattle.std.specs.Option.{option_map_or}
 use Rattle.osv_prim.specs.Results.{each, onto, Fails}
 use Rattle.osv_prim.specs.declared.stop.Stop.{Stop}
@@ -10,7 +10,6 @@ use Rattle.ask.specs.Line.{read_line}
 use Rattle.ask.specs.Parts.{Parts, ReadsParts, divided, repo_pair, url_of, with_advisory}
 use Rattle.ask.specs.declared.line.LineFault.{LineFault}
 use Rattle.ask.specs.declared.parts.ReadParts.{ReadParts}
-use Rattle.ask.specs.declared.parts.RepoPart.{RepoPart}
 
 module _ (input : List ℕ) where
   -- some lines were read as advisories, and none of them names a repository

@@ -6,6 +6,8 @@ use Rattle.osv_prim.specs.declared.subject.Subject.{Subject}
 use Rattle.osv_prim.specs.declared.subject.Subject.TheVariants.{Package, Commit, CommitIn}
 use Rattle.osv_record.specs.Advisories.{Advisory}
 use Rattle.evaluate.specs.Hits.{Repo, hit_ids}
+use Rattle.evaluate.specs.Kept.{HoldsHits}
+use Rattle.evaluate.specs.declared.hit_ids.HitIds.{HitIds}
 use Rattle.line_input.specs.Lines.{numbered}
 use Rattle.ask.specs.Commits.{repos_of, refused_commits}
 use Rattle.ask.specs.Line.{read_line, refused_line}
@@ -21,10 +23,9 @@ parts (Package k t) input = advisories_alone (numbered 1 input)
 parts (Commit c) input = divided input (numbered 1 input)
 parts (CommitIn c k) input = divided input (numbered 1 input)
 
--- the ids of the hits, ascending, or the first refusal
-abbrev pub ids_hit : List Repo → Subject → Result (List Advisory) LineFault → Result (List (List ℕ)) LineFault
-ids_hit repos subject (Ok imports) = Ok (hit_ids imports repos subject)
-ids_hit repos subject (Err e) = Err e
+-- the lines were read, and these are the hits of their advisories, one after another
+abbrev pub FindsHits : Subject → Result (List Advisory) LineFault → HitIds → Type 0
+FindsHits subject total found = (imports : List Advisory) × (total ≡ Ok imports) × HoldsHits [] subject imports found
 
 abbrev pub line_of : List ℕ → List ℕ
 line_of id = id ++ 10 ∷ []
@@ -47,6 +48,6 @@ unfoldable pub asked : Subject → List ℕ → Output
 asked subject input = answer_to_parts subject (parts subject input)
 
 -- the line was read, and its advisory is one more import
-abbrev pub TakesLine : Subject → ℕ × List ℕ → List (List ℕ) → List (List ℕ) → Type 0
+abbrev pub TakesLine : Subject → ℕ × List ℕ → HitIds → HitIds → Type 0
 TakesLine subject line old new =
-    (r : Advisory) × (read_line line ≡ Ok r) × ((imports : List Advisory) → old ≡ hit_ids imports [] subject → new ≡ hit_ids (imports ++ r ∷ []) [] subject)
+    (r : Advisory) × (read_line line ≡ Ok r) × ((imports : List Advisory) → HoldsHits [] subject imports old → HoldsHits [] subject (imports ++ r ∷ []) new)

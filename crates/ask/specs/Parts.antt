@@ -1,5 +1,5 @@
 -- The parts of an input: advisories, and the line that names a repository with the stream behind it (our own).
-use Rattle.std.specs.Prelude.{◌≡◌, ℕ, ◌&&◌, nat_lt, List, [], ◌∷◌, length, take, drop, Option, Some, None, option_map, if◌then◌else◌, Result, Ok, codes}
+use Rattle.std.specs.Prelude.{◌≡◌, ℕ, ◌&&◌, nat_lt, List, [], ◌∷◌, length, take, drop, Option, Some, None, option_map, if◌then◌else◌, Ok, codes}
 use Rattle.std.specs.Option.{option_map_or}
 use Rattle.std.specs.Str.{bytes_eq, is_utf8}
 use Rattle.osv_prim.specs.Results.{each}

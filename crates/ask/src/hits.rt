@@ -1,11 +1,14 @@
-ghost use Rattle.std.specs.Prelude.{◌≡◌, ◌<◌, ◌^◌, [], map, length, IfOk, IfErr, OnOk};
+ghost use Rattle.std.specs.Prelude.{◌≡◌, ◌<◌, ◌^◌, List, map, length, IfOk, IfErr, OnOk};
 ghost use Rattle.std.specs.Arc.{arc_value};
 ghost use Rattle.std.specs.List.{flat_map};
-ghost use Rattle.evaluate.specs.Hits.{hit_ids};
-ghost use Rattle.osv_prim.specs.Results.{Fails, Gives, each};
+ghost use Rattle.evaluate.specs.Hits.{Repo, hit_ids};
+ghost use Rattle.evaluate.specs.Kept.{HoldsHits};
+ghost use Rattle.osv_prim.specs.Results.{Fails, each};
+ghost use Rattle.osv_prim.specs.declared.subject.Subject.{Subject};
+ghost use Rattle.osv_record.specs.Advisories.{Advisory};
 ghost use Rattle.line_input.specs.Cursor.{line_pair};
 ghost use Rattle.line_input.specs.Lines.{numbered};
-ghost use Rattle.ask.specs.Asked.{TakesLine, ids_hit, ids_output, line_of};
+ghost use Rattle.ask.specs.Asked.{FindsHits, TakesLine, ids_output, line_of};
 ghost use Rattle.ask.specs.Line.{read_line};
 
 use crate::line::{LineFault, read_line};
@@ -27,7 +30,8 @@ pub fn hits_of_lines<L: Ledger>(
     steps: &mut Steps<L>,
 ) -> Result<HitIds, Stop<LineFault>>
     requires { length input.now < 2 ^ 48 }
-    ensures { Gives (λ h. h) result (ids_hit [] subject.now (each read_line (numbered 1 input.now))) }
+    ensures ok { IfOk result (FindsHits subject.now (each read_line (numbered 1 input.now))) }
+    ensures err { IfErr result (λ e. Fails e (each read_line (numbered 1 input.now))) }
 {
     let mut lines = Lines::new(input);
     let mut buffers = Buffers::new(alloc);
@@ -62,7 +66,7 @@ pub fn hits_of_advisories<L: Ledger>(
     repos: &[(RepoKey, Arc<Graph>)],
     steps: &mut Steps<L>,
 ) -> Result<HitIds, Memory>
-    ensures { IfOk result (λ h. h ≡ hit_ids advisories.items (map (λ g. (g.0, arc_value g.1)) repos.now) subject.now) }
+    ensures { IfOk result (HoldsHits (map (λ g. (g.0, arc_value g.1)) repos.now) subject.now advisories.items) }
 {
     let mut found = HitIds::new(alloc);
     for advisory in advisories {
@@ -73,7 +77,7 @@ pub fn hits_of_advisories<L: Ledger>(
 
 /// The ids, a line each.
 pub fn ids_output(alloc: Global, found: HitIds) -> Result<Output, Memory>
-    ensures { IfOk result (λ o. o ≡ ids_output found) }
+    ensures { IfOk result (λ o. (repos : List Repo) (subject : Subject) (imports : List Advisory) → HoldsHits repos subject imports found → o ≡ ids_output (hit_ids imports repos subject)) }
 {
     let ids = found.into_vec(alloc)?;
     Ok(Output {

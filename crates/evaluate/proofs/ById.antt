@@ -39,15 +39,25 @@ pair-insert : {V : Type 0} (see : V → Advisory) (es : List (Bor (List ℕ) × 
 pair-insert see [] k v = refl
 pair-insert see (e ∷ es) k v = map-match (pair see) (by_key k e.0) _ _ _ ∙ rw (pair-insert see es k v) refl
 
-same_place : (r x : Advisory) (o : Ordering) (xs : List Advisory) (rest : List (List ℕ × Advisory)) → by_id r.id x.id ≡ o → rest ≡ map keyed (placed r xs)
-    → match_ordering o ((r.id, r) ∷ keyed x ∷ map keyed xs) ((x.id, r) ∷ map keyed xs) (keyed x ∷ rest) ≡ match_ordering o (map keyed (r ∷ x ∷ xs)) (map keyed (r ∷ xs)) (map keyed (x ∷ placed r xs))
-same_place r x Less xs rest o e = refl
-same_place r x Equal xs rest o e = ap (λ (i : List ℕ). (i, r) ∷ map keyed xs) (sym (one_id r.id x.id o))
-same_place r x Greater xs rest o e = ap (λ (t : List (List ℕ × Advisory)). keyed x ∷ t) e
+-- a map whose values are a part of each advisory
+module _ {W : Type 0} (part : Advisory → W) where
+  abbrev pub with_part : Advisory → List ℕ × W
+  with_part x = (x.id, part x)
 
-insert-keyed : (r : Advisory) (xs : List Advisory) → insert_entry (slice_cmp nat_cmp) (map keyed xs) r.id r ≡ map keyed (placed r xs)
-insert-keyed r [] = refl
-insert-keyed r (x ∷ xs) = same_place r x (by_id r.id x.id) xs _ refl (insert-keyed r xs) ∙ sym (map-match keyed (by_id r.id x.id) _ _ _)
+  same_place : (r x : Advisory) (o : Ordering) (xs : List Advisory) (rest : List (List ℕ × W)) → by_id r.id x.id ≡ o → rest ≡ map with_part (placed r xs)
+      → match_ordering o ((r.id, part r) ∷ with_part x ∷ map with_part xs) ((x.id, part r) ∷ map with_part xs) (with_part x ∷ rest)
+      ≡ match_ordering o (map with_part (r ∷ x ∷ xs)) (map with_part (r ∷ xs)) (map with_part (x ∷ placed r xs))
+  same_place r x Less xs rest o e = refl
+  same_place r x Equal xs rest o e = ap (λ (i : List ℕ). (i, part r) ∷ map with_part xs) (sym (one_id r.id x.id o))
+  same_place r x Greater xs rest o e = ap (λ (t : List (List ℕ × W)). with_part x ∷ t) e
+
+  insert-part : (r : Advisory) (xs : List Advisory) → insert_entry (slice_cmp nat_cmp) (map with_part xs) r.id (part r) ≡ map with_part (placed r xs)
+  insert-part r [] = refl
+  insert-part r (x ∷ xs) = same_place r x (by_id r.id x.id) xs _ refl (insert-part r xs) ∙ sym (map-match with_part (by_id r.id x.id) _ _ _)
+
+  remove-part : (id : List ℕ) (xs : List Advisory) → remove_entry (λ k. is_eq (by_id id k)) (map with_part xs) ≡ map with_part (removed id xs)
+  remove-part id [] = refl
+  remove-part id (x ∷ xs) = rw (remove-part id xs) (sym (map-cond with_part (is_eq (by_id id x.id)) _ _))
 
 -- ---- a removal
 
@@ -56,27 +66,37 @@ pair-remove : {V : Type 0} (see : V → Advisory) (test : Bor (List ℕ) → Boo
 pair-remove see test id [] h = refl
 pair-remove see test id (e ∷ es) h = map-cond (pair see) (test e.0) _ _ ∙ rw (h e.0, pair-remove see test id es h) refl
 
-remove-keyed : (id : List ℕ) (xs : List Advisory) → remove_entry (λ k. is_eq (by_id id k)) (map keyed xs) ≡ map keyed (removed id xs)
-remove-keyed id [] = refl
-remove-keyed id (x ∷ xs) = rw (remove-keyed id xs) (sym (map-cond keyed (is_eq (by_id id x.id)) _ _))
-
 -- ---- a turn of the loop
 
 records-push : (kept imports : List Advisory) (r : Advisory) → records_from kept (imports ++ r ∷ []) ≡ placed r (records_from kept imports)
 records-push kept [] r = refl
 records-push kept (x ∷ imports) r = records-push (placed x kept) imports r
 
+-- the imports that count and pass a test, with one more
+module _ (h : Advisory → Bool) (imports : List Advisory) (r : Advisory) where
+  pub one_in : h r ≡ true → filter h (records (imports ++ r ∷ [])) ≡ placed r (filter h (records imports))
+  one_in is = ap (filter h) (records-push [] imports r) ∙ filter-placed_hit h r (records imports) is (records-ascending [] imports tt)
+
+  pub one_out : h r ≡ false → filter h (records (imports ++ r ∷ [])) ≡ removed r.id (filter h (records imports))
+  one_out is = ap (filter h) (records-push [] imports r) ∙ filter-placed_miss h r (records imports) is (records-ascending [] imports tt)
+
+  pub part_inserted : {W : Type 0} (part : Advisory → W) (es : List (List ℕ × W)) → h r ≡ true → es ≡ map (with_part part) (filter h (records imports))
+      → insert_entry (slice_cmp nat_cmp) es r.id (part r) ≡ map (with_part part) (filter h (records (imports ++ r ∷ [])))
+  part_inserted part es is so_far =
+      ap (λ es. insert_entry (slice_cmp nat_cmp) es r.id (part r)) so_far ∙ insert-part part r (filter h (records imports)) ∙ ap (map (with_part part)) (sym (one_in is))
+
+  pub part_taken_out : {W : Type 0} (part : Advisory → W) (es : List (List ℕ × W)) → h r ≡ false → es ≡ map (with_part part) (filter h (records imports))
+      → remove_entry (λ k. is_eq (by_id r.id k)) es ≡ map (with_part part) (filter h (records (imports ++ r ∷ [])))
+  part_taken_out part es is so_far =
+      ap (remove_entry (λ k. is_eq (by_id r.id k))) so_far ∙ remove-part part r.id (filter h (records imports)) ∙ ap (map (with_part part)) (sym (one_out is))
+
 pub inserted : {V : Type 0} (see : V → Advisory) (es : List (Bor (List ℕ) × V)) (k : Bor (List ℕ)) (v : V) (imports : List Advisory) (r : Advisory) (g : List Repo) (s : Subject)
     → k.now ≡ r.id → see v ≡ r → is_hit g s r ≡ true → map (pair see) es ≡ map keyed (hits imports g s) → map (pair see) (insert_entry by_key es k v) ≡ map keyed (hits (imports ++ r ∷ []) g s)
-inserted see es k v imports r g s key value is so_far =
-    pair-insert see es k v ∙ rw (so_far, key, value) (insert-keyed r (hits imports g s))
-    ∙ ap (map keyed) (sym (ap (filter (is_hit g s)) (records-push [] imports r) ∙ filter-placed_hit (is_hit g s) r (records imports) is (records-ascending [] imports tt)))
+inserted see es k v imports r g s key value is so_far = pair-insert see es k v ∙ rw (key, value) (part_inserted (is_hit g s) imports r (λ x. x) (map (pair see) es) is so_far)
 
 pub taken_out : {V : Type 0} (see : V → Advisory) (test : Bor (List ℕ) → Bool) (es : List (Bor (List ℕ) × V)) (imports : List Advisory) (r : Advisory) (g : List Repo) (s : Subject)
     → ((k : Bor (List ℕ)) → test k ≡ is_eq (by_id r.id k.now)) → is_hit g s r ≡ false → map (pair see) es ≡ map keyed (hits imports g s) → map (pair see) (remove_entry test es) ≡ map keyed (hits (imports ++ r ∷ []) g s)
-taken_out see test es imports r g s h is so_far =
-    pair-remove see test r.id es h ∙ rw so_far (remove-keyed r.id (hits imports g s))
-    ∙ ap (map keyed) (sym (ap (filter (is_hit g s)) (records-push [] imports r) ∙ filter-placed_miss (is_hit g s) r (records imports) is (records-ascending [] imports tt)))
+taken_out see test es imports r g s h is so_far = pair-remove see test r.id es h ∙ part_taken_out (is_hit g s) imports r (λ x. x) (map (pair see) es) is so_far
 
 pub all_values : {V : Type 0} (see : V → Advisory) (es : List (Bor (List ℕ) × V)) (rs : List Advisory) → map (pair see) es ≡ map keyed rs → map see (map (λ (e : Bor (List ℕ) × V). e.1) es) ≡ rs
 all_values see [] [] e = refl
@@ -117,11 +137,9 @@ remove-ids id (x ∷ xs) = rw (remove-ids id xs) (sym (map-cond (λ (y : Advisor
 
 pub id_inserted : (ids : List (List ℕ)) (imports : List Advisory) (r : Advisory) (g : List Repo) (s : Subject) → is_hit g s r ≡ true → ids ≡ hit_ids imports g s → insert_key by_id ids r.id ≡ hit_ids (imports ++ r ∷ []) g s
 id_inserted ids imports r g s is so_far =
-    ap (λ (ks : List (List ℕ)). insert_key by_id ks r.id) so_far ∙ insert-ids r (hits imports g s)
-    ∙ ap ids_of (sym (ap (filter (is_hit g s)) (records-push [] imports r) ∙ filter-placed_hit (is_hit g s) r (records imports) is (records-ascending [] imports tt)))
+    ap (λ (ks : List (List ℕ)). insert_key by_id ks r.id) so_far ∙ insert-ids r (hits imports g s) ∙ ap ids_of (sym (one_in (is_hit g s) imports r is))
 
 pub id_taken_out : (ids : List (List ℕ)) (imports : List Advisory) (r : Advisory) (g : List Repo) (s : Subject) → is_hit g s r ≡ false → ids ≡ hit_ids imports g s
     → remove_key (λ k. is_eq (by_id r.id k)) ids ≡ hit_ids (imports ++ r ∷ []) g s
 id_taken_out ids imports r g s is so_far =
-    ap (remove_key (λ k. is_eq (by_id r.id k))) so_far ∙ remove-ids r.id (hits imports g s)
-    ∙ ap ids_of (sym (ap (filter (is_hit g s)) (records-push [] imports r) ∙ filter-placed_miss (is_hit g s) r (records imports) is (records-ascending [] imports tt)))
+    ap (remove_key (λ k. is_eq (by_id r.id k))) so_far ∙ remove-ids r.id (hits imports g s) ∙ ap ids_of (sym (one_out (is_hit g s) imports r is))

@@ -1,3 +1,4 @@
 pub mod Ascending
 pub mod Latest
 pub mod ById
+pub mod Commits

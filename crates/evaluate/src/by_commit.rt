@@ -2,8 +2,8 @@ ghost use Rattle.std.specs.Prelude.{◌≡◌, ◌+◌, ◌*◌, ◌<◌, ◌≤
 ghost use Rattle.std.specs.Arc.{arc_value};
 ghost use Rattle.std.specs.List.{list_any, sum_by};
 ghost use Rattle.osv_prim.specs.Graphs.{has};
-ghost use Rattle.evaluate.specs.Hits.{git_hit, git_range_hit, graph_of, is_of_package, affects_commit};
-ghost use Rattle.evaluate.specs.Rows.{git_rows, range_rows};
+ghost use Rattle.evaluate.specs.Hits.{git_entry_hit, git_hit, git_range_hit, graph_of, is_of_package, affects_commit};
+ghost use Rattle.evaluate.specs.Rows.{entry_rows, git_rows, range_rows};
 
 use commit_graph::Graph;
 use git_range::affects;
@@ -30,7 +30,30 @@ pub fn git_hit<L: Ledger>(
     ensures steps { steps.new.graph ≤ steps.old.graph + 2 * git_rows (map (λ g. (g.0, arc_value g.1)) repos.now) (option_map (λ k. k.now) asked.entry) advisory.now }
     ensures records { steps.new.record_count ≡ steps.old.record_count }
 {
-    let mut rest = advisory.affected.as_slice();
+    any_entry_hit(
+        alloc,
+        advisory.affected.as_slice(),
+        repos,
+        commit,
+        asked,
+        steps,
+    )
+}
+
+// The same, of an advisory's entries.
+pub(crate) fn any_entry_hit<L: Ledger>(
+    alloc: Global,
+    entries: &[Affected],
+    repos: &[(RepoKey, Arc<Graph>)],
+    commit: &Oid,
+    asked: Option<&PackageKey>,
+    steps: &mut Steps<L>,
+) -> Result<bool, Memory>
+    ensures hit { IfOk result (λ b. b ≡ list_any (git_entry_hit (map (λ g. (g.0, arc_value g.1)) repos.now) commit.now (option_map (λ k. k.now) asked.entry)) entries.now) }
+    ensures steps { steps.new.graph ≤ steps.old.graph + 2 * sum_by (entry_rows (map (λ g. (g.0, arc_value g.1)) repos.now) (option_map (λ k. k.now) asked.entry)) entries.now }
+    ensures records { steps.new.record_count ≡ steps.old.record_count }
+{
+    let mut rest = entries;
     while let [entry, after @ ..] = rest {
         if is_of_package(asked, &entry.package)
             && any_range_hit(alloc, entry, repos, commit, steps)?

@@ -1,7 +1,9 @@
-ghost use Rattle.std.specs.Prelude.{◌≡◌, ◌+◌, ◌*◌, ◌≤◌, ◌++◌, ◌∷◌, [], List, map, IfOk, OnOk, OnErr};
+ghost use Rattle.std.specs.Prelude.{◌≡◌, ◌+◌, ◌*◌, ◌≤◌, ◌++◌, ◌∷◌, [], false, List, map, IfOk, OnOk, OnErr};
 ghost use Rattle.std.specs.Arc.{arc_value};
+ghost use Rattle.osv_prim.specs.declared.subject.Subject.{Subject};
 ghost use Rattle.osv_record.specs.Advisories.{Advisory};
-ghost use Rattle.evaluate.specs.Hits.{hit_ids};
+ghost use Rattle.evaluate.specs.Hits.{Repo, hit_ids, is_hit};
+ghost use Rattle.evaluate.specs.Kept.{HoldsHits};
 ghost use Rattle.evaluate.specs.Rows.{subject_rows};
 
 use crate::by_subject::is_hit;
@@ -10,28 +12,20 @@ use osv_prim::{Id, Ledger, Memory, RepoKey, Steps, Subject};
 use osv_record::Record;
 use std::alloc::{AllocError, Global};
 use std::collections::BTreeSet;
-use std::marker::Model;
 use std::sync::Arc;
 
 /// The ids of the hits of imports that come one after another. No import is kept, so it holds no
-/// more than the ids of the hits. Contracts see the ids, ascending.
+/// more than the ids of the hits. Contracts see by `HoldsHits` which imports it was given.
 #[derive(Drop)]
 pub struct HitIds {
     ids: BTreeSet<Id>,
 }
 
-impl Model for HitIds {
-    ghost use Rattle.std.specs.Prelude.{List, ℕ};
-
-    ghost Value = { List (List ℕ) };
-
-    ghost view = { λ h. h.ids.keys };
-}
-
 impl HitIds {
     /// The hits of no imports. It takes no memory.
+    #[tactic(auto, unfolding(crate::specs::Kept::HoldsHits))]
     pub fn new(alloc: Global) -> HitIds
-        ensures { result ≡ [] }
+        ensures { (repos : List Repo) (subject : Subject) → HoldsHits repos subject [] result }
     {
         HitIds {
             ids: BTreeSet::new(alloc),
@@ -41,6 +35,7 @@ impl HitIds {
     /// One more import, which counts in place of an earlier one of its id. Only want of memory is
     /// refused, and changes nothing. It takes at most two graph steps for each row of the graph of each
     /// GIT range in entries of the asked package, and none where no commit is asked for.
+    #[tactic(auto, unfolding(crate::specs::Kept::HoldsHits))]
     pub fn import<L: Ledger>(
         &mut self,
         alloc: Global,
@@ -49,9 +44,9 @@ impl HitIds {
         subject: &Subject,
         steps: &mut Steps<L>,
     ) -> Result<(), Memory>
-        ensures ok { OnOk result ((imports : List Advisory) → self.old ≡ hit_ids imports (map (λ g. (g.0, arc_value g.1)) repos.now) subject.now
-            → self.new ≡ hit_ids (imports ++ advisory ∷ []) (map (λ g. (g.0, arc_value g.1)) repos.now) subject.now) }
-        ensures err { OnErr result (self.new ≡ self.old) }
+        ensures ok { OnOk result ((imports : List Advisory) → HoldsHits (map (λ g. (g.0, arc_value g.1)) repos.now) subject.now imports self.old
+            → HoldsHits (map (λ g. (g.0, arc_value g.1)) repos.now) subject.now (imports ++ advisory ∷ []) self.new) }
+        ensures err { OnErr result ((repos : List Repo) (subject : Subject) (imports : List Advisory) → HoldsHits repos subject imports self.old → HoldsHits repos subject imports self.new) }
         ensures steps { steps.new.graph ≤ steps.old.graph + 2 * subject_rows (map (λ g. (g.0, arc_value g.1)) repos.now) subject.now advisory }
         ensures records { steps.new.record_count ≡ steps.old.record_count }
     {
@@ -64,10 +59,27 @@ impl HitIds {
         Ok(())
     }
 
-    /// The ids, ascending by their bytes. Only want of memory is refused.
-    pub fn into_vec(self, alloc: Global) -> Result<Vec<Id>, AllocError>
-        ensures { IfOk result (λ v. v.items ≡ self) }
+    /// One more import with this id, of which it is known that it doesn't hit: an earlier one of its id
+    /// counts no longer. It takes no memory.
+    #[tactic(auto, unfolding(crate::specs::Kept::HoldsHits))]
+    pub fn pass(&mut self, id: &Id)
+        ensures { (repos : List Repo) (subject : Subject) (imports : List Advisory) (advisory : Advisory) → advisory.id ≡ id.now → is_hit repos subject advisory ≡ false
+            → HoldsHits repos subject imports self.old → HoldsHits repos subject (imports ++ advisory ∷ []) self.new }
     {
-        self.ids.into_iter().collect(alloc)
+        self.ids.remove(id);
     }
+
+    /// The ids, ascending by their bytes. Only want of memory is refused.
+    #[tactic(auto, unfolding(crate::specs::Kept::HoldsHits))]
+    pub fn into_vec(self, alloc: Global) -> Result<Vec<Id>, AllocError>
+        ensures { IfOk result (λ v. (repos : List Repo) (subject : Subject) (imports : List Advisory) → HoldsHits repos subject imports self → v.items ≡ hit_ids imports repos subject) }
+    {
+        ids_of(alloc, self.ids)
+    }
+}
+
+fn ids_of(alloc: Global, ids: BTreeSet<Id>) -> Result<Vec<Id>, AllocError>
+    ensures { IfOk result (λ v. v.items ≡ ids.keys) }
+{
+    ids.into_iter().collect(alloc)
 }

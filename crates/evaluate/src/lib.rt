@@ -11,10 +11,13 @@ mod by_commit;
 mod by_subject;
 mod by_version;
 mod evaluation;
+mod git_imports;
 mod hit_ids;
 pub mod laws;
 
 pub use by_commit::git_hit;
+pub use by_subject::is_hit;
 pub use by_version::version_hit;
 pub use evaluation::hits;
+pub use git_imports::GitImports;
 pub use hit_ids::HitIds;
