@@ -1,25 +1,37 @@
 -- A publication, turn by turn.
-use Rattle.std.proofs.Common.{◌≡◌, ◌⊎◌, inl, inr, ℕ, ◌+◌, ◌<◌, ◌≤◌, min, List, [], ◌∷◌, ◌++◌, length, refl, sym, ap, subst, ◌∙◌, append_assoc, arith, length-append}
+use Rattle.std.proofs.Common.{◌≡◌, ◌≢◌, inl, inr, ℕ, ◌+◌, ◌<◌, ◌≤◌, false, min, List, [], ◌∷◌, ◌++◌, length, refl, sym, ap, subst, ◌∙◌, append_assoc, arith, length-append}
 use mathlib.Core.List.{IsPrefix}
 use Rattle.std.proofs.lemmas.List.{append-nil}
 use Rattle.history.specs.declared.past.Past.{Past}
 use Rattle.history.specs.declared.past.Past.TheVariants.{Publish}
-use Rattle.history.specs.Entries.{History, imports, own, newest}
+use Rattle.history.specs.Entries.{History, imports, own, newest, upto_of}
 use Rattle.history.specs.Legality.{Marks, marks, marked, start, ArePublishedFrom, IsLegal}
 use Rattle.history.proofs.Entries.{Grows, marks_grow, marks_from-append, count_from, published-front, published-rest, front-refl, front-trans, front-length}
-use Rattle.std.specs.Prelude.{Result, Ok, Err}
+use Rattle.std.specs.Prelude.{Option, Result, Ok, Err}
+use Rattle.std.specs.List.{list_any}
 use Rattle.osv_prim.specs.declared.memory.Memory.{Memory}
+use Rattle.book_model.specs.State.{Build, is_out, cells_in, published}
+use Rattle.book_model.specs.Jobs.{JobName}
 use Rattle.book_model.specs.Desk.{Caller, saturating_sum}
+use Rattle.book_model.proofs.Owned.{some_of}
 use Rattle.snapshot.specs.declared.job.Job.{Job}
+use Rattle.snapshot.specs.declared.job.Finished.{Finished}
+use Rattle.snapshot.specs.declared.job.Finished.TheVariants as finished
+use Rattle.snapshot.specs.Jobs.{name, outcome}
 use Rattle.session_model.specs.declared.sign.Sign.{Sign}
 use Rattle.session_model.specs.declared.sign.Sign.TheVariants as signs
+use Rattle.session_model.specs.Alone.{IsAlone, StaysApart, with_all, PublishesAlone}
 use Rattle.session_model.specs.Answers.{AddsNothing, AddsEntry, ArePublications, PublishesFew, most_turns}
 use Rattle.session_model.specs.Counts.{Rises, Counts, OutsAre, busy_of, turns_of, looks_of}
 use Rattle.session_model.specs.Runs.{Goes}
 use Rattle.session_model.proofs.Runs.{goes-then}
+use Rattle.session_model.proofs.Apart.{apart-refl, apart-then}
 use Rattle.session_model.proofs.Counting.{rises-then, rises-less}
-use Rattle.desk_calls.specs.Calls.{Still, Counted, Reached, AreOut, Given, HandedIn, Publishes}
-use Rattle.desk_calls.specs.Publishing.{Adds, Worked, EndsPublishing, SoFarPublished, Going, PublishedBy}
+use Rattle.desk_calls.specs.Alone.{Begun, turns_at, build_at, front_at, build_over}
+use Rattle.desk_calls.specs.Calls.{Still, Counted, Reached, AreOut, Given, HandedIn, HandedBack, Publishes}
+use Rattle.desk_calls.specs.Publishing.{Worked, EndsPublishing, SoFarPublished, Going, PublishedBy, PublishedAlone}
+use Rattle.desk_calls.proofs.Alone.{if-some, same-front, apart, only-own-then, builds-behind}
+use Rattle.desk_calls.proofs.Stages.{few-turns, free-at, same-at, next-stage, one-or-none, all-published}
 
 -- ---- histories
 
@@ -106,30 +118,48 @@ few-so-far me goal h now p = record { begins = p.begins; added = p.added; mine =
 -- ---- turns
 
 pub going-start : (c : Caller) (goal : ℕ) → goal ≤ length (imports c.front) → Goes c c → Rises 0 0 0 c c → Going c goal 0 c
-going-start c goal came g r = record { goes = g; so_far = published-start c.me goal c.front came; rises = r; outs = refl }
+going-start c goal came g r = record {
+  goes = g;
+  so_far = published-start c.me goal c.front came;
+  rises = r;
+  outs = refl;
+  apart = apart-refl c;
+  stage = λ alone all. record { stage = Begun; took_is = refl; there = record { build = alone; front = refl; mine = refl; needed = tt } };
+}
 
 still-so-far : (old mid new : Caller) (goal took : ℕ) → Going old goal took mid → Still mid new → SoFarPublished old.me goal old.front new.front
 still-so-far old mid new goal took p s =
     published-same old.me goal old.front mid.front new.front p.so_far (subst (λ (k : ℕ). AddsNothing k mid.front new.front) p.goes.me s.none) s.goes.legal
 
-worked-so-far : (old mid new : Caller) (goal took : ℕ) → Going old goal took mid → IsLegal new.front → AddsNothing mid.me mid.front new.front ⊎ Adds mid goal new → SoFarPublished old.me goal old.front new.front
-worked-so-far old mid new goal took p legal (inl s) =
+worked-so-far : (old mid new : Caller) (goal took : ℕ) → Going old goal took mid → (marks mid.front).last < goal → IsLegal new.front → Publishes mid new → SoFarPublished old.me goal old.front new.front
+worked-so-far old mid new goal took p low legal (inl s) =
     published-same old.me goal old.front mid.front new.front p.so_far (subst (λ (k : ℕ). AddsNothing k mid.front new.front) p.goes.me s) legal
-worked-so-far old mid new goal took p legal (inr a) =
-    published-more old.me goal a.place a.upto old.front mid.front new.front p.so_far (subst (λ (k : ℕ). AddsEntry k (Publish k a.upto) a.place mid.front new.front) p.goes.me a.entry) a.low legal
+worked-so-far old mid new goal took p low legal (inr a) =
+    published-more old.me goal a.0 a.1 old.front mid.front new.front p.so_far (subst (λ (k : ℕ). AddsEntry k (Publish k a.1) a.0 mid.front new.front) p.goes.me a.2) low legal
 
 pub going-on : (old mid new : Caller) (goal took : ℕ) → Going old goal took mid → Worked mid goal new → Going old goal (took + 1) new
 going-on old mid new goal took p w =
     let both = rises-then old mid 0 took 0 new 0 1 1 p.rises w.rises in
     record {
       goes = goes-then old mid new p.goes w.goes;
-      so_far = worked-so-far old mid new goal took p w.goes.legal w.adds;
+      so_far = worked-so-far old mid new goal took p w.low w.goes.legal w.publishes;
       rises = rises-less old new (0 + 0) (took + 1) (0 + 1) 0 (took + 1) 0 (omega arith) (omega arith) (omega arith) both;
       outs = w.outs ∙ p.outs;
+      apart = apart-then old mid new p.goes.me p.apart w.apart;
+      stage = λ alone all. next-stage old.me old.front mid new goal took all w (p.stage alone all);
     }
 
-pub stopped : (old mid new : Caller) (goal took : ℕ) → Going old goal took mid → Still mid new → Goes old new × PublishesFew old.me old.front new.front
-stopped old mid new goal took p s = (goes-then old mid new p.goes s.goes, few-so-far old.me goal old.front new.front (still-so-far old mid new goal took p s))
+pub stopped : (old mid new : Caller) (goal took : ℕ) → Going old goal took mid → Still mid new → Goes old new × PublishesFew old.me old.front new.front × StaysApart old new
+stopped old mid new goal took p s = (
+  goes-then old mid new p.goes s.goes,
+  few-so-far old.me goal old.front new.front (still-so-far old mid new goal took p s),
+  apart-then old mid new p.goes.me p.apart s.apart,
+)
+
+pub stopped-alone : (old mid new : Caller) (goal took : ℕ) (e : Memory) → Going old goal took mid → Still mid new → IsAlone old → goal ≡ length (imports old.front) → PublishedAlone old (Err e) new
+stopped-alone old mid new goal took e p s alone all =
+    let k = p.stage alone all in
+    one-or-none k.stage old.me old.front new k.there.needed (same-at k.stage old.me old.front mid new k.there s ∙ k.there.front)
 
 pub reached-ends : (old mid new : Caller) (goal took snapshot upto : ℕ) → Going old goal took mid → Reached mid goal snapshot upto new
     → PublishedBy old goal (Ok (signs.Published snapshot upto)) new
@@ -141,7 +171,18 @@ reached-ends old mid new goal took snapshot upto p r =
       (within, sym r.upto_is, r.reaches, s.1),
       rises-less old new (0 + 0) (took + 0) (0 + 1) 0 0 1 (omega arith) (omega arith) (omega arith) both,
       r.quiet.outs ∙ p.outs,
+      s.2,
     )
+
+pub reached-alone : (old mid new : Caller) (goal took snapshot upto : ℕ) → Going old goal took mid → Reached mid goal snapshot upto new → IsAlone old → goal ≡ length (imports old.front)
+    → PublishedAlone old (Ok (signs.Published snapshot upto)) new
+reached-alone old mid new goal took snapshot upto p r alone all =
+    let k = p.stage alone all in
+    let now : new.front ≡ front_at k.stage old.me old.front = same-at k.stage old.me old.front mid new k.there r.quiet.still ∙ k.there.front in
+    let is : upto ≡ upto_of new.front (newest new.front) = r.upto_is ∙ ap (λ (n : ℕ). upto_of new.front n) r.snapshot_is in
+    let enough : length (imports old.front) ≤ published new.front = omega (arith, all, is, r.reaches) in
+    let ended = all-published k.stage old.me old.front mid new enough k.there r.quiet.alone now in
+    (ended.0, (ended.1, ap (λ (n : ℕ). signs.Published n upto) r.snapshot_is ∙ ap (λ (n : ℕ). signs.Published (newest new.front) n) is))
 
 pub out-ends : (old mid new : Caller) (goal took out : ℕ) → took ≤ most_turns → Going old goal took mid → AreOut mid out new
     → PublishedBy old goal (Ok (signs.Building out took)) new
@@ -152,7 +193,14 @@ out-ends old mid new goal took out few p r =
       (inl (r.some, few), s.1),
       rises-less old new (0 + 1) (took + 0) (0 + 1) (min out 1) took 0 (omega arith) (omega arith) (omega arith) both,
       (λ some. r.outs ∙ ap (λ (n : ℕ). saturating_sum n out) p.outs, λ none. absurd (omega (arith, r.some, none))),
+      s.2,
     )
+
+-- the caller itself has no job
+pub never-out : (old mid new : Caller) (goal took out : ℕ) → Going old goal took mid → AreOut mid out new → IsAlone old → goal ≡ length (imports old.front) → ⊥
+never-out old mid new goal took out p r alone all =
+    let k = p.stage alone all in
+    some_of (λ (b : Option Build). list_any is_out (cells_in b) ≢ false) mid.alone (build_at k.stage old.front) k.there.build r.mine (free-at k.stage old.front)
 
 pub all-taken : (old now : Caller) (goal took : ℕ) → took ≤ most_turns → most_turns ≤ took → Going old goal took now
     → PublishedBy old goal (Ok (signs.Building 0 took)) now
@@ -162,7 +210,14 @@ all-taken old now goal took few all p =
       (inr (refl, is), few-so-far old.me goal old.front now.front p.so_far),
       rises-less old now 0 took 0 (min 0 1) took 0 (omega arith) (omega arith) (omega arith) p.rises,
       (λ some. absurd (omega (arith, some)), λ none. p.outs),
+      p.apart,
     )
+
+pub never-taken : (old now : Caller) (goal took : ℕ) → most_turns ≤ took → Going old goal took now → IsAlone old → goal ≡ length (imports old.front) → ⊥
+never-taken old now goal took many p alone all =
+    let k = p.stage alone all in
+    let few : turns_at k.stage ≤ 2 = few-turns k.stage in
+    omega (arith, many, few, k.took_is)
 
 -- ---- behind the call that says how many imports there are
 
@@ -204,45 +259,76 @@ published-behind old mid new count (Ok sign) k p = (
   ends-behind old mid new (length (imports old.front)) count sign k.quiet.still k.least p.1,
   counts-behind old mid new sign k.quiet.rises p.2,
   outs-behind old mid new sign k.quiet.outs p.3,
+  apart-then old mid new k.quiet.still.goes.me k.quiet.still.apart p.4,
 )
-published-behind old mid new count (Err e) k p = (goes-then old mid new k.quiet.still.goes p.0, few-behind old mid new k.quiet.still p.1)
+published-behind old mid new count (Err e) k p =
+    (goes-then old mid new k.quiet.still.goes p.0, few-behind old mid new k.quiet.still p.1, apart-then old mid new k.quiet.still.goes.me k.quiet.still.apart p.2)
+
+alone-step : (old mid new : Caller) (r : Result Sign Memory) → mid.me ≡ old.me → mid.front ≡ old.front → PublishedAlone mid r new → PublishedAlone old r new
+alone-step old mid new (Ok sign) me front p =
+    (p.0, subst (λ (n : ℕ). PublishesAlone n old.front new.front sign) me (subst (λ (h : History). PublishesAlone mid.me h new.front sign) front p.1))
+alone-step old mid new (Err e) me front (inl p) = inl (p ∙ front)
+alone-step old mid new (Err e) me front (inr p) = inr (p ∙ ap (λ (h : History). with_all mid.me h) front ∙ ap (λ (n : ℕ). with_all n old.front) me)
+
+pub alone-behind : (old mid new : Caller) (count : ℕ) (r : Result Sign Memory) → Counted old count mid → (IsAlone mid → count ≡ length (imports mid.front) → PublishedAlone mid r new) → IsAlone old → PublishedAlone old r new
+alone-behind old mid new count r k f alone =
+    let front : mid.front ≡ old.front = same-front old mid k.quiet.still alone in
+    let same : length (imports mid.front) ≡ length (imports old.front) = ap (λ (h : History). length (imports h)) front in
+    let count_is : count ≡ length (imports mid.front) = omega (arith, k.least, k.came, same) in
+    alone-step old mid new r k.quiet.still.goes.me front (f (k.quiet.alone alone) count_is)
 
 -- ---- a job
 
-pub worked : (old mid new : Caller) (goal : ℕ) (job : Job) → Given old goal job mid → HandedIn mid new → Worked old goal new
-worked old mid new goal job p h =
-    let both = rises-then old mid 0 0 1 new 0 1 1 p.quiet.rises h.rises in
-    record {
-      goes = goes-then old mid new p.quiet.still.goes h.goes;
-      rises = rises-less old new (0 + 0) (0 + 1) (1 + 1) 0 1 1 (omega arith) (omega arith) (omega arith) both;
-      outs = h.outs ∙ p.quiet.outs;
-      adds = adds-behind old mid new goal job p h.publishes;
-    }
-  where
-    adds-behind : (old mid new : Caller) (goal : ℕ) (job : Job) → Given old goal job mid → Publishes mid new → AddsNothing old.me old.front new.front ⊎ Adds old goal new
-    adds-behind old mid new goal job p (inl n) =
-        let q : AddsNothing old.me mid.front new.front = subst (λ (k : ℕ). AddsNothing k mid.front new.front) p.quiet.still.goes.me n in
-        inl (record { begins = front-trans old.front mid.front new.front p.quiet.still.none.begins q.begins; mine = q.mine ∙ p.quiet.still.none.mine })
-    adds-behind old mid new goal job p (inr a) =
-        let q : AddsEntry old.me (Publish old.me a.1) a.0 mid.front new.front = subst (λ (k : ℕ). AddsEntry k (Publish k a.1) a.0 mid.front new.front) p.quiet.still.goes.me a.2 in
-        let later = (marks-later old.front mid.front p.quiet.still.none.begins p.quiet.still.goes.legal.published).last in
-        inr (record {
-          place = a.0;
-          upto = a.1;
-          entry = record {
-            before = q.before;
-            begins = front-trans old.front mid.front q.before p.quiet.still.none.begins q.begins;
-            ends = q.ends;
-            place_is = q.place_is;
-            mine = q.mine ∙ ap (λ (xs : List (ℕ × Past)). xs ++ (a.0, Publish old.me a.1) ∷ []) p.quiet.still.none.mine;
-          };
-          low = omega (arith, later, p.low);
-        })
+pub no-pieces : (f : Finished) (job : JobName) (old new : Caller) → (outcome f).job ≡ job → HandedIn (outcome f).job (outcome f).cells old new → HandedIn job [] old new
+no-pieces (finished.Plan build plan) job old new e h = subst (λ (j : JobName). HandedIn j [] old new) e h
+no-pieces (finished.Assemble build snapshot) job old new e h = subst (λ (j : JobName). HandedIn j [] old new) e h
 
-pub still-then : (old mid new : Caller) → Still old mid → Still mid new → Still old new
-still-then old mid new p q =
-    let n : AddsNothing old.me mid.front new.front = subst (λ (k : ℕ). AddsNothing k mid.front new.front) p.goes.me q.none in
+nothing-then : (me : ℕ) (h mid now : History) → AddsNothing me h mid → AddsNothing me mid now → AddsNothing me h now
+nothing-then me h mid now p q = record { begins = front-trans h mid now p.begins q.begins; mine = q.mine ∙ p.mine }
+
+publishes-behind : (old mid new : Caller) → mid.me ≡ old.me → AddsNothing old.me old.front mid.front → Publishes mid new → Publishes old new
+publishes-behind old mid new me p (inl n) = inl (nothing-then old.me old.front mid.front new.front p (subst (λ (k : ℕ). AddsNothing k mid.front new.front) me n))
+publishes-behind old mid new me p (inr a) =
+    let q : AddsEntry old.me (Publish old.me a.1) a.0 mid.front new.front = subst (λ (k : ℕ). AddsEntry k (Publish k a.1) a.0 mid.front new.front) me a.2 in
+    inr (
+      a.0,
+      a.1,
+      record {
+        before = q.before;
+        begins = front-trans old.front mid.front q.before p.begins q.begins;
+        ends = q.ends;
+        place_is = q.place_is;
+        mine = q.mine ∙ ap (λ (xs : List (ℕ × Past)). xs ++ (a.0, Publish old.me a.1) ∷ []) p.mine;
+      },
+    )
+
+pub worked : (old mid new : Caller) (goal : ℕ) (job : Job) → Given old goal job mid → HandedIn (name job) [] mid new → Worked old goal new
+worked old mid new goal job p h =
+    let both = rises-then old mid 0 0 1 new 0 1 1 p.passes.rises h.rises in
+    let later = (marks-later old.front mid.front p.passes.none.begins p.passes.goes.legal.published).last in
+    let me : mid.me ≡ old.me = p.passes.goes.me in
     record {
-      goes = goes-then old mid new p.goes q.goes;
-      none = record { begins = front-trans old.front mid.front new.front p.none.begins n.begins; mine = n.mine ∙ p.none.mine };
+      goes = goes-then old mid new p.passes.goes h.goes;
+      rises = rises-less old new (0 + 0) (0 + 1) (1 + 1) 0 1 1 (omega arith) (omega arith) (omega arith) both;
+      outs = h.outs ∙ p.passes.outs;
+      low = omega (arith, later, p.low);
+      publishes = publishes-behind old mid new me p.passes.none h.publishes;
+      apart = apart old new (only-own-then old mid new me p.passes.own h.own) (λ build e free. (h.comes_in (build_over old.front build) (p.hands_out build e free).0).1);
+      builds = λ build e free.
+          let b : Build = build_over old.front build in
+          let j = p.hands_out build e free in
+          ((name job).number, builds-behind b.phase b (name job).number [] old mid new j.1 me (h.comes_in b j.0).0);
+    }
+
+-- the job that came out was handed back
+pub stopped-back : (old mid new : Caller) (goal : ℕ) (job : Job) → Given old goal job mid → HandedBack (name job) mid new → Still old new
+stopped-back old mid new goal job p h =
+    let me : mid.me ≡ old.me = p.passes.goes.me in
+    record {
+      goes = goes-then old mid new p.passes.goes h.passes.goes;
+      none = nothing-then old.me old.front mid.front new.front p.passes.none (subst (λ (k : ℕ). AddsNothing k mid.front new.front) me h.passes.none);
+      apart = apart old new (only-own-then old mid new me p.passes.own h.passes.own) (λ build e free. (h.comes_back (build_over old.front build) (p.hands_out build e free).0).0);
+      front = λ none. if-some (λ (b : Option Build). new.front ≡ old.front) old.alone (λ build e.
+          let j = p.hands_out build e (some_of (λ (b : Option Build). list_any is_out (cells_in b) ≡ false) old.alone build e none) in
+          (h.comes_back (build_over old.front build) j.0).1 ∙ j.1);
     }

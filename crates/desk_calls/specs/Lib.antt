@@ -1,2 +1,3 @@
+pub mod Alone
 pub mod Calls
 pub mod Publishing

@@ -5,7 +5,7 @@ ghost use Rattle.std.specs.Arc.{arc_value};
 ghost use Rattle.history.specs.Entries.{imports};
 ghost use Rattle.book_model.specs.Jobs.{JobHolds, FinishedHolds};
 ghost use Rattle.snapshot.specs.Jobs.{name, IsJob, outcome, IsDone};
-ghost use Rattle.desk_calls.specs.Calls.{Counted, HandedIn, Imported, NamedIs, NewestIs, PulledIs, Quiet};
+ghost use Rattle.desk_calls.specs.Calls.{AllFound, Counted, HandedBack, HandedIn, Imported, NamedIs, NewestIs, PulledIs};
 
 use book_desk::{Desk, ImportFault, Kept, Newest, Progress, Pulled, Strange};
 use osv_prim::Memory;
@@ -63,6 +63,28 @@ pub fn kept_of<D: Desk>(alloc: Global, desk: &mut D, number: u64) -> Result<Name
     }
 }
 
+/// Snapshots by their numbers, beside the newest one.
+#[derive(Drop)]
+pub struct Found {
+    pub newest: Newest,
+    /// What each number finds, in order.
+    pub kept: Vec<Kept>,
+}
+
+/// What these numbers of snapshots find, all of one history.
+pub fn find_all<D: Desk>(alloc: Global, desk: &mut D, numbers: &[u64]) -> Result<Found, Memory>
+    ensures { AllFound (D.caller desk.old) numbers.now result (D.caller desk.new) }
+{
+    let _known = desk.point();
+    let Ok(mut kept) = Vec::with_capacity(alloc, numbers.len()) else {
+        return Err(Memory);
+    };
+    match desk.look(numbers, &mut kept) {
+        Ok(newest) => Ok(Found { newest, kept }),
+        Err(_) => Err(Memory),
+    }
+}
+
 /// Asks for a snapshot of the first `goal` imports, or a job for it.
 pub fn pull_of<D: Desk>(desk: &mut D, goal: u64) -> Result<Pulled, Memory>
     requires { goal ≤ length (imports (D.caller desk.old).front) }
@@ -74,7 +96,7 @@ pub fn pull_of<D: Desk>(desk: &mut D, goal: u64) -> Result<Pulled, Memory>
 /// Hands in what a job came to.
 pub fn finish_of<D: Desk>(desk: &mut D, finished: Finished) -> Result<Progress, Strange>
     requires { FinishedHolds outcome IsDone finished (D.caller desk.old).front }
-    ensures { HandedIn (D.caller desk.old) (D.caller desk.new) }
+    ensures { HandedIn (outcome finished).job (outcome finished).cells (D.caller desk.old) (D.caller desk.new) }
 {
     desk.finish(finished)
 }
@@ -82,7 +104,7 @@ pub fn finish_of<D: Desk>(desk: &mut D, finished: Finished) -> Result<Progress, 
 /// Hands a job back.
 pub fn give_back_of<D: Desk>(desk: &mut D, job: Job) -> Result<(), Strange>
     requires { JobHolds name IsJob job (D.caller desk.old).front }
-    ensures { Quiet (D.caller desk.old) (D.caller desk.new) }
+    ensures { HandedBack (name job) (D.caller desk.old) (D.caller desk.new) }
 {
     desk.give_back(job)
 }

@@ -9,5 +9,8 @@
 mod calls;
 mod turns;
 
-pub use calls::{Named, count_of, finish_of, give_back_of, import_of, kept_of, newest_of, pull_of};
+pub use calls::{
+    Found, Named, count_of, find_all, finish_of, give_back_of, import_of, kept_of, newest_of,
+    pull_of,
+};
 pub use turns::publish;

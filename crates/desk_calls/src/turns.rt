@@ -1,8 +1,9 @@
-ghost use Rattle.std.specs.Prelude.{◌≤◌, length};
+ghost use Rattle.std.specs.Prelude.{◌≡◌, ◌≤◌, length};
 ghost use Rattle.history.specs.Entries.{imports};
 ghost use Rattle.book_model.specs.Jobs.{JobHolds};
 ghost use Rattle.snapshot.specs.Jobs.{name, IsJob};
-ghost use Rattle.desk_calls.specs.Publishing.{PublishedBy, TurnIs, WorkIs};
+ghost use Rattle.session_model.specs.Alone.{IsAlone};
+ghost use Rattle.desk_calls.specs.Publishing.{PublishedAlone, PublishedBy, TurnIs, WorkIs};
 
 use crate::calls::{count_of, finish_of, give_back_of, pull_of};
 use book_desk::{Desk, Pulled};
@@ -32,6 +33,7 @@ pub fn publish<D: Desk, G: Gate, L: Ledger>(
     steps: &mut Steps<L>,
 ) -> Result<Sign, Memory>
     ensures published { PublishedBy (D.caller desk.old) (length (imports (D.caller desk.old).front)) result (D.caller desk.new) }
+    ensures alone { IsAlone (D.caller desk.old) → PublishedAlone (D.caller desk.old) result (D.caller desk.new) }
 {
     let goal = count_of(desk);
     publish_to(alloc, desk, gate, goal, steps)
@@ -46,7 +48,8 @@ fn publish_to<D: Desk, G: Gate, L: Ledger>(
     steps: &mut Steps<L>,
 ) -> Result<Sign, Memory>
     requires { goal ≤ length (imports (D.caller desk.old).front) }
-    ensures { PublishedBy (D.caller desk.old) goal result (D.caller desk.new) }
+    ensures published { PublishedBy (D.caller desk.old) goal result (D.caller desk.new) }
+    ensures alone { IsAlone (D.caller desk.old) → goal ≡ length (imports (D.caller desk.old).front) → PublishedAlone (D.caller desk.old) result (D.caller desk.new) }
 {
     let _known = desk.point();
     let mut took = 0;
@@ -94,7 +97,7 @@ fn work<D: Desk, G: Gate, L: Ledger>(
     steps: &mut Steps<L>,
 ) -> Result<(), Memory>
     requires { JobHolds name IsJob job (D.caller desk.old).front }
-    ensures { WorkIs (D.caller desk.old) result (D.caller desk.new) }
+    ensures { WorkIs (name job) (D.caller desk.old) result (D.caller desk.new) }
 {
     match do_job(alloc, job, gate, steps) {
         Ok(finished) => {

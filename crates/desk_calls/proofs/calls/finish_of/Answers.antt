@@ -3,4 +3,4 @@ use Rattle.desk_calls.proofs.Pulling.{handed-in}
 use Rattle.desk_calls.proofs.calls.finish_of.Goals as goal
 
 pub returns : goal.returns
-returns g c = handed-in (outcome c.args.finished) c.finish.result (g.D.Desk.caller c.args.desk.now) (g.D.Desk.caller c.finish.new.self) c.finish.ensures.acts c.finish.ensures.counts
+returns g c = handed-in (outcome c.args.finished) c.finish.result (g.D.Desk.caller c.args.desk.now) (g.D.Desk.caller c.finish.new.self) c.requires.free c.finish.ensures.acts c.finish.ensures.counts
