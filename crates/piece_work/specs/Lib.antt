@@ -1,0 +1,3 @@
+pub mod Works
+pub mod Pieces
+pub mod Sets
