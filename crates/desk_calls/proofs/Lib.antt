@@ -1,5 +1,6 @@
 pub mod Alone
 pub mod Events
+pub mod Growing
 pub mod Pulling
 pub mod Stages
 pub mod Publishing

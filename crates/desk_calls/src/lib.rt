@@ -7,10 +7,12 @@
 #![tactic(auto)]
 
 mod calls;
+mod repos;
 mod turns;
 
 pub use calls::{
     Found, Named, count_of, find_all, finish_of, give_back_of, import_of, kept_of, newest_of,
     pull_of,
 };
+pub use repos::{grow_of, repo_of};
 pub use turns::publish;
