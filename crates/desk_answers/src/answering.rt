@@ -1,0 +1,64 @@
+ghost use Rattle.std.specs.Prelude.{◌≡◌};
+ghost use Rattle.desk_answers.specs.Gives.{Gives, GivesAt};
+
+use crate::batch::batch;
+use crate::find::vulns;
+use crate::import::import;
+use crate::publish::publish;
+use crate::query::query;
+use crate::reply::{Answered, refused, wrong_method};
+use crate::request::route_of;
+use book_desk::Desk;
+use gate::Gate;
+use http_wire::Request;
+use osv_prim::{Ledger, Memory, Steps};
+use reply_json::Refusal;
+use session_model::{Route, Sign};
+use settings::Settings;
+use std::alloc::Global;
+
+/// Answers a request that was read, by the settings of the desk. `closes` says whether the connection
+/// closes behind the reply. Only memory can fail, and then the request has entered nothing, but that a
+/// publication may be there, whole or in part.
+pub fn answer<D: Desk, G: Gate, L: Ledger>(
+    alloc: Global,
+    desk: &mut D,
+    gate: &G,
+    request: Request,
+    closes: bool,
+    settings: &Settings,
+    steps: &mut Steps<L>,
+) -> Result<Answered, Memory>
+    requires { (D.caller desk.old).settings ≡ settings.now }
+    ensures { Gives (D.caller desk.old) (D.caller desk.new) closes request result }
+{
+    let route = route_of(&request);
+    answer_at(alloc, desk, gate, &request, route, closes, settings, steps)
+}
+
+// Answers a request that leads there.
+fn answer_at<D: Desk, G: Gate, L: Ledger>(
+    alloc: Global,
+    desk: &mut D,
+    gate: &G,
+    request: &Request,
+    route: Route,
+    closes: bool,
+    settings: &Settings,
+    steps: &mut Steps<L>,
+) -> Result<Answered, Memory>
+    requires { (D.caller desk.old).settings ≡ settings.now }
+    ensures { GivesAt (D.caller desk.old) (D.caller desk.new) closes request.now route result }
+{
+    let _known = desk.point();
+    match route {
+        Route::NoPath => refused(alloc, Sign::Plain, closes, &Refusal::NoSuchPath),
+        Route::WrongMethod(allow) => wrong_method(alloc, closes, allow),
+        Route::Query => query(alloc, desk, request, closes, settings.page, steps),
+        Route::QueryBatch => batch(alloc, desk, request, closes, settings.page, steps),
+        Route::Repo => Err(Memory),
+        Route::Vulns => vulns(alloc, desk, request, closes),
+        Route::Import => import(alloc, desk, request, closes),
+        Route::Publish => publish(alloc, desk, gate, request, closes, steps),
+    }
+}

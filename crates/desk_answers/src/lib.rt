@@ -1,0 +1,19 @@
+//! What a request is answered, over any desk.
+//!
+//! ```
+//! let answered = answer(alloc, &mut desk, &OpenGate, request, closes, &settings, steps)?;
+//! write_reply(&mut sink, &answered.reply)?;
+//! ```
+#![tactic(auto)]
+
+mod answering;
+mod batch;
+mod find;
+mod import;
+mod publish;
+mod query;
+mod reply;
+mod request;
+
+pub use answering::answer;
+pub use reply::Answered;

@@ -1,0 +1,90 @@
+ghost use Rattle.std.specs.Prelude.{◌≡◌, IfOk, length, drop};
+ghost use Rattle.http_wire.specs.Replies.{method_of};
+ghost use Rattle.session_model.specs.Routes.{begins, by_method, id_of, route_of, vulns};
+ghost use Rattle.session_model.specs.Looks.{least_of};
+
+use http_wire::{Allow, Request};
+use osv_prim::{Bytes, Memory, read_u64};
+use percent_encoding::percent_decode;
+use session_model::Route;
+use std::alloc::Global;
+
+/// Where a request leads to.
+#[tactic(auto, unfolding(session_model::specs::Routes::route_of))]
+pub(crate) fn route_of(request: &Request) -> Route
+    ensures { result ≡ route_of request.now }
+{
+    let path = request.path.as_slice();
+    let method = request.method.as_slice();
+    if path == b"/v1/query".as_slice() {
+        return by_method(method, Allow::Post, Route::Query);
+    }
+    if path == b"/v1/querybatch".as_slice() {
+        return by_method(method, Allow::Post, Route::QueryBatch);
+    }
+    if path == b"/x/import".as_slice() {
+        return by_method(method, Allow::Post, Route::Import);
+    }
+    if path == b"/x/repo".as_slice() {
+        return by_method(method, Allow::Post, Route::Repo);
+    }
+    if path == b"/x/publish".as_slice() {
+        return by_method(method, Allow::Post, Route::Publish);
+    }
+    if begins(b"/v1/vulns/", path) {
+        return by_method(method, Allow::Get, Route::Vulns);
+    }
+    Route::NoPath
+}
+
+fn begins(word: &[u8], text: &[u8]) -> bool
+    ensures { result ≡ begins word.now text.now }
+{
+    text.strip_prefix(word).is_some()
+}
+
+fn by_method(method: &[u8], allow: Allow, route: Route) -> Route
+    ensures { result ≡ by_method method.now allow route }
+{
+    if method == name_of(allow) {
+        return route;
+    }
+    Route::WrongMethod(allow)
+}
+
+fn name_of(allow: Allow) -> &'static [u8]
+    ensures { result.now ≡ method_of allow }
+{
+    match allow {
+        Allow::Get => b"GET",
+        Allow::Post => b"POST",
+    }
+}
+
+/// The snapshot that the client wants at least, 0 where it names none, or none where it names no number.
+pub(crate) fn least_of(min: &Option<Bytes>) -> Option<u64>
+    ensures { result ≡ least_of min.now }
+{
+    match min {
+        None => Some(0),
+        Some(text) => read_u64(text.as_slice()),
+    }
+}
+
+/// The id that a path of an advisory names, decoded.
+pub(crate) fn id_of(alloc: Global, path: &[u8]) -> Result<Vec<u8>, Memory>
+    ensures { IfOk result (λ id. id.items ≡ id_of path.now) }
+{
+    let mut id = Vec::new(alloc);
+    percent_decode(behind_vulns(path)).append_to(&mut id)?;
+    Ok(id)
+}
+
+fn behind_vulns(path: &[u8]) -> &[u8]
+    ensures { result.now ≡ drop (length vulns) path.now }
+{
+    match path.split_at_checked(10) {
+        Some((_, id)) => id,
+        None => &[],
+    }
+}
