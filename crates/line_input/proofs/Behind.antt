@@ -4,8 +4,8 @@ use Rattle.std.specs.Prelude.{◌==◌}
 use Rattle.std.specs.List.{after_first, position_or_len}
 use Rattle.std.proofs.lemmas.List.{drop_all, length-drop}
 use Rattle.std.proofs.lemmas.List.Sums.{position_or_len_is}
-use Rattle.line_input.specs.Lines.{behind, is_line_end}
-use Rattle.line_input.proofs.Cut.{NoneBefore, not_here}
+use Rattle.line_input.specs.Lines.{behind, is_line_end, NoneBefore}
+use Rattle.line_input.proofs.Cut.{not_here}
 
 -- the line end is at that place
 pub first_at : (text : List ℕ) (at : ℕ) → at < length text → NoneBefore text at → (get_or text at 0 == 10) ≡ true → drop (at + 1) text ≡ after_first is_line_end text

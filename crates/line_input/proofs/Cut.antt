@@ -4,15 +4,11 @@ use Rattle.std.specs.Prelude.{◌==◌, filter}
 use Rattle.std.specs.List.{slice_split, enumerate_from}
 use Rattle.std.proofs.lemmas.List.{take-append-drop, get_or_default, get_or-take, length-take-le}
 use Rattle.std.proofs.lemmas.List.Splits.{slice_split_none, slice_split_at}
-use Rattle.line_input.specs.Lines.{lines, numbered, has_bytes, CutsLine}
+use Rattle.line_input.specs.Lines.{lines, numbered, has_bytes, CutsLine, NoneBefore}
 
 pub no_true : (b : Bool) → (b ≡ true → ⊥) → b ≡ false
 no_true true h = absurd (h refl)
 no_true false h = refl
-
--- no line end stands before that place
-abbrev pub NoneBefore : List ℕ → ℕ → Type 0
-NoneBefore text n = (k : ℕ) → 0 ≤ k → k < n → (get_or text k 0 == 10) ≡ true → ⊥
 
 pub not_here : (text : List ℕ) (n k d : ℕ) → NoneBefore text n → k < n → k < length text → (get_or text k d == 10) ≡ false
 not_here text n k d none below lt = no_true (get_or text k d == 10) (λ e. none k (omega arith) below (subst (λ (x : ℕ). (x == 10) ≡ true) (get_or_default text k d 0 lt) e))

@@ -1,5 +1,5 @@
 -- An input by lines (our own).
-use Rattle.std.specs.Prelude.{◌≡◌, ◌⊎◌, ℕ, zero, suc, Bool, true, false, List, [], ◌∷◌, filter, ◌==◌}
+use Rattle.std.specs.Prelude.{◌≡◌, ◌⊎◌, ◌<◌, ◌≤◌, get_or, ℕ, zero, suc, Bool, true, false, List, [], ◌∷◌, filter, ◌==◌}
 use Rattle.std.specs.List.{after_first, slice_split, enumerate_from}
 
 -- the byte LF
@@ -26,3 +26,7 @@ behind (suc n) input = after_first is_line_end (behind n input)
 -- the first line of a text, and the text after it
 abbrev pub CutsLine : List ℕ → List ℕ → List ℕ → Type 0
 CutsLine text line after = (lines text ≡ line ∷ lines after) ⊎ ((lines text ≡ line ∷ []) × (after ≡ []))
+
+-- no line end stands before that place
+abbrev pub NoneBefore : List ℕ → ℕ → Type 0
+NoneBefore text n = (k : ℕ) → 0 ≤ k → k < n → (get_or text k 0 == 10) ≡ true → ⊥

@@ -1,4 +1,13 @@
-//! An input by lines: all the bytes of a source, and a cursor over their lines.
+//! An input by lines: a reader of the lines of a source as they come, and all the bytes of a source with a
+//! cursor over their lines.
+//!
+//! ```
+//! let mut reader = LineReader::new(alloc, 1 << 20);
+//! while reader.next(&mut source)? == Next::Here {
+//!     let line = reader.line();
+//!     println!(rt; "line {} has {} bytes", line.number, line.text.len())?;
+//! }
+//! ```
 //!
 //! ```
 //! if let Input::Whole(bytes) = read_all(alloc, &mut source, 1 << 20)? {
@@ -12,6 +21,9 @@
 
 mod input;
 mod lines;
+mod reader;
+mod window;
 
 pub use input::{Input, ReadStop, read_all};
 pub use lines::{Lines, NumberedLine};
+pub use reader::{LineReader, Next};
