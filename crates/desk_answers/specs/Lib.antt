@@ -1,3 +1,4 @@
 pub mod Gives
 pub mod Shown
 pub mod Batches
+pub mod Joining

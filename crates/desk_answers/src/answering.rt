@@ -7,6 +7,7 @@ use crate::import::import;
 use crate::publish::publish;
 use crate::query::query;
 use crate::reply::{Answered, refused, wrong_method};
+use crate::repo::repo;
 use crate::request::route_of;
 use book_desk::Desk;
 use gate::Gate;
@@ -56,7 +57,7 @@ fn answer_at<D: Desk, G: Gate, L: Ledger>(
         Route::WrongMethod(allow) => wrong_method(alloc, closes, allow),
         Route::Query => query(alloc, desk, request, closes, settings.page, steps),
         Route::QueryBatch => batch(alloc, desk, request, closes, settings.page, steps),
-        Route::Repo => Err(Memory),
+        Route::Repo => repo(alloc, desk, request, closes, settings.commits, steps),
         Route::Vulns => vulns(alloc, desk, request, closes),
         Route::Import => import(alloc, desk, request, closes),
         Route::Publish => publish(alloc, desk, gate, request, closes, steps),

@@ -1,10 +1,11 @@
-ghost use Rattle.std.specs.Prelude.{◌≡◌, ◌≤◌, ◌+◌, ◌++◌, [], length, vec_len, vec_capacity};
+ghost use Rattle.std.specs.Prelude.{◌≡◌, ◌≤◌, [], vec_len, vec_capacity};
 ghost use Rattle.std.specs.Arc.{arc_value};
 ghost use Rattle.reply_json.specs.Bodies.{entry_body};
 ghost use Rattle.session_model.specs.declared.route.Route.TheVariants as routes;
 ghost use Rattle.desk_answers.specs.Gives.{GivesAt};
 ghost use Rattle.desk_answers.specs.Shown.{ImportsAs};
 
+use crate::put::put;
 use crate::reply::{Answered, done, refused};
 use book_desk::{Desk, ImportFault};
 use desk_calls::import_of;
@@ -77,17 +78,4 @@ fn entry_text(mut room: Vec<u8>, place: u64) -> Vec<u8>
     put(&mut room, digits);
     put(&mut room, b"}");
     room
-}
-
-// Puts a text into room that is there.
-fn put(room: &mut Vec<u8>, text: &[u8])
-    requires { vec_len room.old + length text.now ≤ vec_capacity room.old }
-    ensures items { room.new.items ≡ room.old.items ++ text.now }
-    ensures len { vec_len room.new ≡ vec_len room.old + length text.now }
-    ensures capacity { vec_capacity room.old ≤ vec_capacity room.new }
-{
-    match room.extend_from_slice(text) {
-        Ok(()) => {}
-        Err(_) => unreachable!(),
-    }
 }

@@ -11,8 +11,10 @@ mod batch;
 mod find;
 mod import;
 mod publish;
+mod put;
 mod query;
 mod reply;
+mod repo;
 mod request;
 
 pub use answering::answer;

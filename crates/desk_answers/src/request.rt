@@ -1,13 +1,18 @@
-ghost use Rattle.std.specs.Prelude.{◌≡◌, IfOk, length, drop};
+ghost use Rattle.std.specs.Prelude.{◌≡◌, IfOk, length, drop, option_map, codes};
+ghost use Rattle.std.specs.Cow.{cow_str_bytes};
+ghost use Rattle.std.specs.Str.{bytes_eq};
+ghost use Rattle.form_urlencoded.specs.Form.{raw_pairs};
 ghost use Rattle.http_wire.specs.Replies.{method_of};
-ghost use Rattle.session_model.specs.Routes.{begins, by_method, id_of, route_of, vulns};
+ghost use Rattle.session_model.specs.Routes.{begins, by_method, form_text, id_of, key_of, route_of, url_in, vulns};
 ghost use Rattle.session_model.specs.Looks.{least_of};
 
+use form_urlencoded::{decode, raw_pairs};
 use http_wire::{Allow, Request};
-use osv_prim::{Bytes, Memory, read_u64};
+use osv_prim::{Bytes, Memory, RepoKey, read_u64};
 use percent_encoding::percent_decode;
 use session_model::Route;
 use std::alloc::Global;
+use std::borrow::CowStr;
 
 /// Where a request leads to.
 #[tactic(auto, unfolding(session_model::specs::Routes::route_of))]
@@ -87,4 +92,39 @@ fn behind_vulns(path: &[u8]) -> &[u8]
         Some((_, id)) => id,
         None => &[],
     }
+}
+
+/// The key of the repository that a query names.
+#[tactic(auto, unfolding(session_model::specs::Routes::key_of))]
+pub(crate) fn key_of(alloc: Global, query: &[u8]) -> Result<Option<RepoKey>, Memory>
+    ensures { IfOk result (λ key. key ≡ key_of query.now) }
+{
+    let Some(url) = url_of(alloc, query)? else {
+        return Ok(None);
+    };
+    let key = RepoKey::normal(alloc, url.as_str())?;
+    if key.as_str().is_empty() {
+        return Ok(None);
+    }
+    Ok(Some(key))
+}
+
+// The value of the first `url` of a form.
+fn url_of(alloc: Global, form: &[u8]) -> Result<Option<CowStr<'_>>, Memory>
+    ensures { IfOk result (λ url. option_map cow_str_bytes url ≡ url_in (raw_pairs form.now)) }
+{
+    let mut pairs = raw_pairs(form);
+    while let Some((name, value)) = pairs.next() {
+        if is_url(alloc, name)? {
+            return Ok(Some(decode(alloc, value)?));
+        }
+    }
+    Ok(None)
+}
+
+fn is_url(alloc: Global, name: &[u8]) -> Result<bool, Memory>
+    ensures { IfOk result (λ is. is ≡ bytes_eq (form_text name.now) (codes "url")) }
+{
+    let name = decode(alloc, name)?;
+    Ok(name.as_str() == "url")
 }
