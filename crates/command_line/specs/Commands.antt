@@ -9,7 +9,7 @@ use Rattle.osv_prim.specs.declared.subject.Subject.TheVariants.{Package, Commit,
 use Rattle.osv_prim.specs.Numerals.{u64_in}
 use Rattle.osv_prim.specs.Oids.{oid_of}
 use Rattle.osv_prim.specs.Packages.{normal_name}
-use Rattle.settings.specs.Ranges.{AreInRange, IsBetween, default_settings}
+use Rattle.settings.specs.Ranges.{AreInRange, IsBetween}
 use Rattle.settings.specs.declared.Settings.{Settings}
 use Rattle.settings.specs.declared.TheConstants.{MAX_INPUT_BYTES}
 use Rattle.command_line.specs.declared.number.TheConstants.{MAX_DIGITS}
@@ -18,7 +18,7 @@ use Rattle.command_line.specs.declared.command.Command.TheVariants as of
 use Rattle.command_line.specs.declared.table.CommandName.{CommandName}
 use Rattle.command_line.specs.declared.table.CommandName.TheVariants.{Ask, Check, Replay}
 use Rattle.command_line.specs.declared.table.OptionName.{OptionName}
-use Rattle.command_line.specs.declared.table.OptionName.TheVariants.{Input, Keep, Page, Weight, Body, Requests}
+use Rattle.command_line.specs.declared.table.OptionName.TheVariants.{Input, Keep, Page, Weight, Commits, Body, Requests}
 use Rattle.command_line.specs.declared.table.Takes.{Takes}
 use Rattle.command_line.specs.declared.table.Takes.TheVariants.{Number}
 use Rattle.command_line.specs.Table as table
@@ -52,9 +52,9 @@ number_of o = number_by (option_row o)
 -- the settings, where those that no option says are the defaults
 abbrev pub settings_of : List Row → Option Settings
 settings_of rows =
-    option_and_then (λ keep. option_and_then (λ page. option_and_then (λ weight. option_and_then (λ body. option_map (λ requests.
-    record default_settings { keep = keep; page = page; weight = weight; body = body; requests = requests })
-    (number_of Requests rows)) (number_of Body rows)) (number_of Weight rows)) (number_of Page rows)) (number_of Keep rows)
+    option_and_then (λ keep. option_and_then (λ page. option_and_then (λ weight. option_and_then (λ commits. option_and_then (λ body. option_map (λ requests.
+    record { weight = weight; body = body; requests = requests; keep = keep; page = page; commits = commits })
+    (number_of Requests rows)) (number_of Body rows)) (number_of Commits rows)) (number_of Weight rows)) (number_of Page rows)) (number_of Keep rows)
 
 -- ---- operands
 
@@ -106,7 +106,7 @@ ask_of rows = option_and_then (λ input. option_map (λ subject. of.Ask subject 
 abbrev pub check_of : List Row → Option Command
 check_of rows = option_and_then (λ input. if is_bare (operands rows) then Some (of.Check input) else None) (number_of Input rows)
 
--- [--keep N] [--page N] [--weight N] [--body N] [--requests N]
+-- [--keep N] [--page N] [--weight N] [--commits N] [--body N] [--requests N]
 abbrev pub replay_of : List Row → Option Command
 replay_of rows = option_and_then (λ settings. if is_bare (operands rows) then Some (of.Replay settings) else None) (settings_of rows)
 

@@ -1,11 +1,11 @@
 -- The commands and options of the command line (our own).
 use Rattle.std.specs.Prelude.{ℕ, List, [], ◌∷◌, Option, Some, None, if◌then◌else◌, codes}
 use Rattle.std.specs.Str.{bytes_eq}
-use Rattle.settings.specs.declared.TheConstants.{MAX_BODY_BYTES, MAX_INPUT_BYTES, MAX_KEEP, MAX_PAGE, MAX_REQUESTS, MAX_WEIGHT, MIN_WEIGHT}
+use Rattle.settings.specs.declared.TheConstants.{MAX_BODY_BYTES, MAX_COMMITS, MAX_INPUT_BYTES, MAX_KEEP, MAX_PAGE, MAX_REQUESTS, MAX_WEIGHT, MIN_WEIGHT}
 use Rattle.command_line.specs.declared.table.CommandName.{CommandName}
 use Rattle.command_line.specs.declared.table.CommandName.TheVariants.{Ask, Check, Replay}
 use Rattle.command_line.specs.declared.table.OptionName.{OptionName}
-use Rattle.command_line.specs.declared.table.OptionName.TheVariants.{Commit, Input, Keep, Page, Weight, Body, Requests}
+use Rattle.command_line.specs.declared.table.OptionName.TheVariants.{Commit, Input, Keep, Page, Weight, Commits, Body, Requests}
 use Rattle.command_line.specs.declared.table.OptionRow.{OptionRow}
 use Rattle.command_line.specs.declared.table.Takes.{Takes}
 use Rattle.command_line.specs.declared.table.Takes.TheVariants.{Text, Number}
@@ -28,6 +28,7 @@ option_row Input = row (codes "input") (Number 1 MAX_INPUT_BYTES MAX_INPUT_BYTES
 option_row Keep = row (codes "keep") (Number 1 MAX_KEEP 8)
 option_row Page = row (codes "page") (Number 1 MAX_PAGE 100)
 option_row Weight = row (codes "weight") (Number MIN_WEIGHT MAX_WEIGHT 1073741824)
+option_row Commits = row (codes "commits") (Number 1 MAX_COMMITS MAX_COMMITS)
 option_row Body = row (codes "body") (Number 1 MAX_BODY_BYTES MAX_BODY_BYTES)
 option_row Requests = row (codes "requests") (Number 1 MAX_REQUESTS MAX_REQUESTS)
 
@@ -35,7 +36,7 @@ option_row Requests = row (codes "requests") (Number 1 MAX_REQUESTS MAX_REQUESTS
 abbrev pub options_of : CommandName → List OptionName
 options_of Ask = Input ∷ Commit ∷ []
 options_of Check = Input ∷ []
-options_of Replay = Keep ∷ Page ∷ Weight ∷ Body ∷ Requests ∷ []
+options_of Replay = Keep ∷ Page ∷ Weight ∷ Commits ∷ Body ∷ Requests ∷ []
 
 -- the command that a word names
 abbrev pub command_named : List ℕ → Option CommandName

@@ -15,8 +15,8 @@ pub fn words_that_are_commands()
         ≡ Some (Ask (Package (record { ecosystem = codes "npm"; name = codes "p" }) (Some (codes "-1"))) 200) }
     ensures in_two_words { command (codes "check" ∷ codes "--input" ∷ codes "7" ∷ []) ≡ Some (Check 7) }
     ensures no_options { command (codes "replay" ∷ []) ≡ Some (Replay default_settings) }
-    ensures all_options { command (codes "replay" ∷ codes "--requests=2" ∷ codes "--body" ∷ codes "1" ∷ codes "--weight=64" ∷ codes "--page" ∷ codes "2" ∷ codes "--keep=1" ∷ [])
-        ≡ Some (Replay (record default_settings { keep = 1; page = 2; weight = 64; body = 1; requests = 2 })) }
+    ensures all_options { command (codes "replay" ∷ codes "--requests=2" ∷ codes "--body" ∷ codes "1" ∷ codes "--weight=64" ∷ codes "--page" ∷ codes "2" ∷ codes "--keep=1" ∷ codes "--commits" ∷ codes "3" ∷ [])
+        ≡ Some (Replay (record { weight = 64; body = 1; requests = 2; keep = 1; page = 2; commits = 3 })) }
 {}
 
 /// An option stands once, with a value in its range, at a command that takes it.

@@ -3,7 +3,8 @@ ghost use Rattle.command_line.specs.declared.table.Takes.TheVariants.{Number};
 ghost use Rattle.command_line.specs.Table.{command_named, option_row, options_of, row_in};
 
 use settings::{
-    MAX_BODY_BYTES, MAX_INPUT_BYTES, MAX_KEEP, MAX_PAGE, MAX_REQUESTS, MAX_WEIGHT, MIN_WEIGHT,
+    MAX_BODY_BYTES, MAX_COMMITS, MAX_INPUT_BYTES, MAX_KEEP, MAX_PAGE, MAX_REQUESTS, MAX_WEIGHT,
+    MIN_WEIGHT,
 };
 
 /// An option.
@@ -14,6 +15,7 @@ pub enum OptionName {
     Keep,
     Page,
     Weight,
+    Commits,
     Body,
     Requests,
 }
@@ -51,6 +53,7 @@ pub fn option_row(option: OptionName) -> OptionRow
         OptionName::Keep => row("keep", number(1, MAX_KEEP as u64, 8)),
         OptionName::Page => row("page", number(1, MAX_PAGE as u64, 100)),
         OptionName::Weight => row("weight", number(MIN_WEIGHT, MAX_WEIGHT, 1_073_741_824)),
+        OptionName::Commits => row("commits", number(1, MAX_COMMITS as u64, MAX_COMMITS as u64)),
         OptionName::Body => row("body", number(1, MAX_BODY_BYTES, MAX_BODY_BYTES)),
         OptionName::Requests => row("requests", number(1, MAX_REQUESTS, MAX_REQUESTS)),
     }
@@ -76,10 +79,11 @@ static ASK: [OptionName; 2] = [OptionName::Input, OptionName::Commit];
 
 static CHECK: [OptionName; 1] = [OptionName::Input];
 
-static REPLAY: [OptionName; 5] = [
+static REPLAY: [OptionName; 6] = [
     OptionName::Keep,
     OptionName::Page,
     OptionName::Weight,
+    OptionName::Commits,
     OptionName::Body,
     OptionName::Requests,
 ];

@@ -87,6 +87,7 @@ fn settings_of(matches: &ArgMatches<'_>) -> Option<Settings>
     let keep = number_of(matches, OptionName::Keep)?;
     let page = number_of(matches, OptionName::Page)?;
     let weight = number_of(matches, OptionName::Weight)?;
+    let commits = number_of(matches, OptionName::Commits)?;
     let body = number_of(matches, OptionName::Body)?;
     let requests = number_of(matches, OptionName::Requests)?;
     Some(Settings {
@@ -95,6 +96,6 @@ fn settings_of(matches: &ArgMatches<'_>) -> Option<Settings>
         requests,
         keep: keep as u32,
         page: page as u32,
-        ..Settings::default()
+        commits: commits as u32,
     })
 }

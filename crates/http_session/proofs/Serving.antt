@@ -1,74 +1,215 @@
--- One turn after another.
-use Rattle.std.proofs.Common.{◌≡◌, ℕ, ◌+◌, ◌-◌, ◌<◌, ◌≤◌, Bool, true, false, leb, List, [], ◌∷◌, ◌++◌, length, Option, Some, None, refl, sym, ap, ◌∙◌, arith, length-append, append_assoc}
-use Rattle.std.specs.Prelude.{All, flat_map, nat_le}
+-- One request, and one turn of a session.
+use Rattle.std.proofs.Common.{◌≡◌, inl, inr, ℕ, ◌≤◌, Bool, true, false, ◌||◌, List, [], ◌∷◌, ◌++◌, length, Option, Some, None, Ok, Err, refl, sym, ap, subst, ◌∙◌}
+use Rattle.std.specs.Prelude.{nat_le}
 use Rattle.std.specs.Io.KnownBytes.{Appends, prepend_known}
-use Rattle.std.proofs.lemmas.Bool.Decides.{nat_tests}
-use Rattle.std.proofs.lemmas.Grind.{flat_map-append}
 use Rattle.std.proofs.lemmas.List.{append-nil}
-use Rattle.std.proofs.lemmas.List.Elements.{All-nil, All-cons, All-append}
-use Rattle.edge_io.proofs.Known.{Appends-then}
 use Rattle.settings.specs.declared.Settings.{Settings}
-use Rattle.http_wire.specs.declared.room.Room.{Room}
-use Rattle.http_wire.specs.Requests.{Next, Asked}
-use Rattle.http_wire.specs.Series.{Exchange, Asks}
+use Rattle.osv_prim.specs.declared.memory.Memory.{Memory}
+use Rattle.history.specs.Legality.{IsLegal}
+use Rattle.book_model.specs.Desk.{Caller}
+use Rattle.http_wire.specs.declared.fault.WireFault.{WireFault}
+use Rattle.http_wire.specs.declared.request.Request.{Request}
+use Rattle.http_wire.specs.declared.read.Got.TheVariants as got
+use Rattle.http_wire.specs.Replies.{spelled}
+use Rattle.http_wire.specs.Requests.{Next, Refused, interim}
+use Rattle.http_wire.specs.Wholes.{RequestTells}
 use Rattle.http_wire.proofs.Wholes.{adds-nothing}
-use Rattle.http_session.specs.declared.end.End.{End}
-use Rattle.http_session.specs.Sessions.{room_of, answered, EndsWith, StaysOpen, Session, SessionTells}
-use Rattle.http_session.specs.Turns.{FailureTells, TurnTells, Answered, SoFar}
-use Rattle.http_session.proofs.Turning.{failed-turn}
+use Rattle.session_model.specs.declared.end.End.{End}
+use Rattle.session_model.specs.declared.end.End.TheVariants as ends
+use Rattle.session_model.specs.declared.sign.Sign.{Sign}
+use Rattle.session_model.specs.Routes.{route_of}
+use Rattle.session_model.specs.Replies.{wire_reply}
+use Rattle.session_model.specs.Ends.{Failed, Nothing, Happens, GoesOn, StopsBy, Writes, WritesBehind, IsAsked, Tells, TellsOf, Turn, room_of}
+use Rattle.session_model.specs.Sessions.{Session, SoFar}
+use Rattle.session_model.proofs.Apart.{unanswered-none}
+use Rattle.session_model.proofs.Sessions.{none-yet, turn-ends}
+use Rattle.desk_answers.specs.declared.reply.Answered as given
+use Rattle.desk_answers.specs.Gives.{Gives}
+use Rattle.http_session.specs.Serving.{Fate, Answered, Unanswered, FateFits, Serves, Fails, IsSomeFault, RefusesBy, RefusesSo, came_of, fate_text, fate_points, fate_signs}
 
-asks-more : (room : Room) (text mid rest : List ℕ) (xs : List Exchange) (x : Exchange) → Asks room text xs mid → Next room mid (Asked x.request x.waits rest) → Asks room text (xs ++ x ∷ []) rest
-asks-more room text mid rest [] x a n = (rest, rw (← a) n, refl)
-asks-more room text mid rest (y ∷ ys) x a n = (a.0, a.1, asks-more room a.0 mid rest ys x a.2 n)
+-- ---- what came of a request
 
-pub tells-nothing : (held : List ℕ) (o : Option (List ℕ)) → held ≡ [] → prepend_known held o ≡ o
+-- there was no memory for it
+unanswered : (last : Bool) (old new : Caller) (q : Request) (out out_now : Option (List ℕ)) (end : End) (points points_now : List ℕ) (signs signs_now : List Sign)
+    → ((waits : Bool) → Happens old new (Failed (record { request = q; waits = waits }))) → Fails out end out_now → points_now ≡ points → signs_now ≡ signs
+    → Serves last old new q out (Some end) out_now points points_now signs signs_now
+unanswered last old new q out out_now end points points_now signs signs_now h f p g = record {
+  fate = Unanswered;
+  happens = h;
+  fits = f.0;
+  writes = f.1;
+  points_are = p ∙ sym (append-nil points);
+  signs_are = g ∙ sym (append-nil signs);
+}
+
+-- before the book was asked
+pub unasked : (last : Bool) (c : Caller) (q : Request) (out out_now : Option (List ℕ)) (end : End) (points points_now : List ℕ) (signs signs_now : List Sign)
+    → IsLegal c.front → Fails out end out_now → points_now ≡ points → signs_now ≡ signs → Serves last c c q out (Some end) out_now points points_now signs signs_now
+unasked last c q out out_now end points points_now signs signs_now legal = unanswered last c c q out out_now end points points_now signs signs_now (λ waits. unanswered-none c (route_of q) legal)
+
+-- behind its steps of the book
+pub given-up : (last closes : Bool) (old new : Caller) (q : Request) (e : Memory) (out out_now : Option (List ℕ)) (end : End) (points points_now : List ℕ) (signs signs_now : List Sign)
+    → Gives old new closes q (Err e) → Fails out end out_now → points_now ≡ points → signs_now ≡ signs → Serves last old new q out (Some end) out_now points points_now signs signs_now
+given-up last closes old new q e out out_now end points points_now signs signs_now g = unanswered last old new q out out_now end points points_now signs signs_now (λ waits. g)
+
+-- it was answered, and the reply was written, or its front
+pub answered : (last : Bool) (old new : Caller) (q : Request) (a : given.Answered) (out out_now : Option (List ℕ)) (end : Option End) (point : ℕ) (points points_now : List ℕ) (signs signs_now : List Sign)
+    → Gives old new (q.close || last) q (Ok a) → point ≡ length new.front → GoesOn q.close last end → Writes out (spelled a.reply) end out_now
+    → points_now ≡ points ++ point ∷ [] → signs_now ≡ signs ++ a.sign ∷ [] → Serves last old new q out end out_now points points_now signs signs_now
+answered last old new q a out out_now end point points points_now signs signs_now g at f w p s = record {
+  fate = Answered point a.sign a.reply;
+  happens = λ waits. record { point_is = at; replied = g };
+  fits = f;
+  writes = w;
+  points_are = p;
+  signs_are = s;
+}
+
+-- the settings stay
+pub serves-settings : (last : Bool) (old new : Caller) (q : Request) (out : Option (List ℕ)) (end : Option End) (out_now : Option (List ℕ)) (points points_now : List ℕ) (signs signs_now : List Sign)
+    → Serves last old new q out end out_now points points_now signs signs_now → new.settings ≡ old.settings
+serves-settings last old new q out end out_now points points_now signs signs_now v = settings-by old new q (q.close || last) v.fate (v.happens true)
+  where
+    settings-by : (old new : Caller) (q : Request) (closes : Bool) (fate : Fate) → Happens old new (came_of q true closes fate) → new.settings ≡ old.settings
+    settings-by old new q closes (Answered point sign reply) h = h.replied.goes.settings
+    settings-by old new q closes Unanswered h = h.goes.settings
+
+-- a text that was written as a whole
+pub writes-whole : (out : Option (List ℕ)) (text : List ℕ) (end : Option End) (out_now : Option (List ℕ)) → (IsSomeFault end → ⊥) → Appends out out_now text → Writes out text end out_now
+writes-whole out text None out_now calm a = a
+writes-whole out text (Some ends.Ended) out_now calm a = a
+writes-whole out text (Some ends.Asked) out_now calm a = a
+writes-whole out text (Some ends.Served) out_now calm a = a
+writes-whole out text (Some (ends.Refused fault)) out_now calm a = a
+writes-whole out text (Some ends.Truncated) out_now calm a = a
+writes-whole out text (Some ends.ReadFault) out_now calm a = a
+writes-whole out text (Some (ends.WriteFault n)) out_now calm a = absurd (calm tt)
+writes-whole out text (Some ends.Memory) out_now calm a = a
+
+tells_of : (s : Settings) (text : List ℕ) (out rest left out_now : Option (List ℕ)) (q : Request) (waits closes : Bool) (fate : Fate) (end : Option End)
+    → IsAsked s text (record { request = q; waits = waits }) left → WritesBehind out waits (fate_text fate) end out_now → TellsOf s text out (came_of q waits closes fate) end rest left out_now
+tells_of s text out rest left out_now q waits closes (Answered point sign reply) end i w = (i, w)
+tells_of s text out rest left out_now q waits closes Unanswered end i w = (i, w)
+
+turn_of : (s : Settings) (last : Bool) (old new : Caller) (text out : Option (List ℕ)) (end : Option End) (rest left out_now : Option (List ℕ)) (points points_now : List ℕ) (signs signs_now : List Sign) (q : Request) (waits : Bool) (fate : Fate)
+    → Happens old new (came_of q waits (q.close || last) fate) → FateFits q.close last fate end → Tells s text out (came_of q waits (q.close || last) fate) end rest left out_now
+    → points_now ≡ points ++ fate_points fate → signs_now ≡ signs ++ fate_signs fate → Turn s last old new text out end rest left out_now points points_now signs signs_now
+turn_of s last old new text out end rest left out_now points points_now signs signs_now q waits (Answered point sign reply) h f t p g =
+    record { came = came_of q waits (q.close || last) (Answered point sign reply); happens = h; fits = (refl, f); tells = t; points_are = p; signs_are = g }
+turn_of s last old new text out end rest left out_now points points_now signs signs_now q waits Unanswered h f t p g =
+    record { came = came_of q waits (q.close || last) Unanswered; happens = h; fits = f; tells = t; points_are = p; signs_are = g }
+
+pub served-turn : (s : Settings) (last : Bool) (old new : Caller) (text out mid : Option (List ℕ)) (end : Option End) (rest left out_now : Option (List ℕ)) (points points_now : List ℕ) (signs signs_now : List Sign) (q : Request) (held : List ℕ)
+    → RequestTells (room_of s) text out (got.Request q) held left mid → Serves last old new q mid end out_now points points_now signs signs_now
+    → Turn s last old new text out end rest left out_now points points_now signs signs_now
+served-turn s last old new None out mid end rest left out_now points points_now signs signs_now q held h v =
+    turn_of s last old new None out end rest left out_now points points_now signs signs_now q false v.fate (v.happens false) v.fits tt v.points_are v.signs_are
+served-turn s last old new (Some text) out mid end rest left out_now points points_now signs signs_now q held h v =
+    turn_of s last old new (Some text) out end rest left out_now points points_now signs signs_now q h.0 v.fate (v.happens h.0) v.fits
+    (tells_of s text out rest left out_now q h.0 (q.close || last) v.fate end (h.1, h.3, h.2) (mid, h.4, v.writes)) v.points_are v.signs_are
+
+-- ---- no request was read
+
+pub stopped-turn : (s : Settings) (last : Bool) (c : Caller) (text out : Option (List ℕ)) (end : End) (rest left out_now : Option (List ℕ)) (points : List ℕ) (signs : List Sign)
+    → StopsBy (Some end) → Tells s text out Nothing (Some end) rest left out_now → Turn s last c c text out (Some end) rest left out_now points points signs signs
+stopped-turn s last c text out end rest left out_now points signs b t =
+    record { came = Nothing; happens = refl; fits = b; tells = t; points_are = sym (append-nil points); signs_are = sym (append-nil signs) }
+
+pub ended-turn : (s : Settings) (last : Bool) (c : Caller) (text out rest left out_now : Option (List ℕ)) (points : List ℕ) (signs : List Sign) (held : List ℕ)
+    → RequestTells (room_of s) text out got.Ended held left out_now → Turn s last c c text out (Some ends.Ended) rest left out_now points points signs signs
+ended-turn s last c None out rest left out_now points signs held h = stopped-turn s last c None out ends.Ended rest left out_now points signs tt tt
+ended-turn s last c (Some text) out rest left out_now points signs held h = stopped-turn s last c (Some text) out ends.Ended rest left out_now points signs tt h
+
+pub truncated-turn : (s : Settings) (last : Bool) (c : Caller) (text out rest left out_now : Option (List ℕ)) (points : List ℕ) (signs : List Sign) (held : List ℕ)
+    → RequestTells (room_of s) text out got.Truncated held left out_now → Turn s last c c text out (Some ends.Truncated) rest left out_now points points signs signs
+truncated-turn s last c None out rest left out_now points signs held h = stopped-turn s last c None out ends.Truncated rest left out_now points signs tt tt
+truncated-turn s last c (Some text) out rest left out_now points signs held h = stopped-turn s last c (Some text) out ends.Truncated rest left out_now points signs tt h
+
+pub fault-turn : (s : Settings) (last : Bool) (c : Caller) (text out rest out_now : Option (List ℕ)) (points : List ℕ) (signs : List Sign) (held : List ℕ)
+    → RequestTells (room_of s) text out got.ReadFault held (prepend_known held rest) out_now → Turn s last c c text out (Some ends.ReadFault) rest (prepend_known held rest) out_now points points signs signs
+fault-turn s last c None out rest out_now points signs held h = stopped-turn s last c None out ends.ReadFault rest (prepend_known held rest) out_now points signs tt tt
+fault-turn s last c (Some text) out rest out_now points signs held (inl h) =
+    stopped-turn s last c (Some text) out ends.ReadFault rest (prepend_known held rest) out_now points signs tt (inl ((held, h.0, h.1), h.2))
+fault-turn s last c (Some text) out rest out_now points signs held (inr h) = stopped-turn s last c (Some text) out ends.ReadFault rest (prepend_known held rest) out_now points signs tt (inr h)
+
+pub cut-turn : (s : Settings) (last : Bool) (c : Caller) (text out rest left out_now : Option (List ℕ)) (points : List ℕ) (signs : List Sign) (n : ℕ) (held : List ℕ)
+    → RequestTells (room_of s) text out (got.WriteFault n) held left out_now → Turn s last c c text out (Some (ends.WriteFault n)) rest left out_now points points signs signs
+cut-turn s last c None out rest left out_now points signs n held h = stopped-turn s last c None out (ends.WriteFault n) rest left out_now points signs tt tt
+cut-turn s last c (Some text) out rest left out_now points signs n held h = stopped-turn s last c (Some text) out (ends.WriteFault n) rest left out_now points signs tt (inl h)
+
+-- a failure behind what was written before it
+behind_failure : (s : Settings) (last : Bool) (c : Caller) (text : List ℕ) (out mid rest left out_now : Option (List ℕ)) (points : List ℕ) (signs : List Sign) (waits : Bool) (end : End)
+    → Appends out mid (interim waits) → Fails mid end out_now → Turn s last c c (Some text) out (Some end) rest left out_now points points signs signs
+behind_failure s last c text out mid rest left out_now points signs waits ends.Ended a f = absurd f.0
+behind_failure s last c text out mid rest left out_now points signs waits ends.Asked a f = absurd f.0
+behind_failure s last c text out mid rest left out_now points signs waits ends.Served a f = absurd f.0
+behind_failure s last c text out mid rest left out_now points signs waits (ends.Refused e) a f = absurd f.0
+behind_failure s last c text out mid rest left out_now points signs waits ends.Truncated a f = absurd f.0
+behind_failure s last c text out mid rest left out_now points signs waits ends.ReadFault a f = absurd f.0
+behind_failure s last c text out mid rest left out_now points signs waits (ends.WriteFault n) a f =
+    stopped-turn s last c (Some text) out (ends.WriteFault n) rest left out_now points signs tt (inr (inr (waits, (mid, a, f.1))))
+behind_failure s last c text out mid rest left out_now points signs waits ends.Memory a f =
+    stopped-turn s last c (Some text) out ends.Memory rest left out_now points signs tt (waits, (mid, a, f.1))
+
+untold_failure : (s : Settings) (last : Bool) (c : Caller) (out mid rest left out_now : Option (List ℕ)) (points : List ℕ) (signs : List Sign) (end : End)
+    → Fails mid end out_now → Turn s last c c None out (Some end) rest left out_now points points signs signs
+untold_failure s last c out mid rest left out_now points signs ends.Ended f = absurd f.0
+untold_failure s last c out mid rest left out_now points signs ends.Asked f = absurd f.0
+untold_failure s last c out mid rest left out_now points signs ends.Served f = absurd f.0
+untold_failure s last c out mid rest left out_now points signs (ends.Refused e) f = absurd f.0
+untold_failure s last c out mid rest left out_now points signs ends.Truncated f = absurd f.0
+untold_failure s last c out mid rest left out_now points signs ends.ReadFault f = absurd f.0
+untold_failure s last c out mid rest left out_now points signs (ends.WriteFault n) f = stopped-turn s last c None out (ends.WriteFault n) rest left out_now points signs tt tt
+untold_failure s last c out mid rest left out_now points signs ends.Memory f = stopped-turn s last c None out ends.Memory rest left out_now points signs tt tt
+
+pub failed-turn : (s : Settings) (last : Bool) (c : Caller) (text out mid rest left out_now : Option (List ℕ)) (points : List ℕ) (signs : List Sign) (held : List ℕ) (end : End)
+    → RequestTells (room_of s) text out got.Memory held left mid → Fails mid end out_now → Turn s last c c text out (Some end) rest left out_now points points signs signs
+failed-turn s last c None out mid rest left out_now points signs held end h f = untold_failure s last c out mid rest left out_now points signs end f
+failed-turn s last c (Some text) out mid rest left out_now points signs held end (inl h) f = behind_failure s last c text out mid rest left out_now points signs false end (adds-nothing out mid h) f
+failed-turn s last c (Some text) out mid rest left out_now points signs held end (inr h) f = behind_failure s last c text out mid rest left out_now points signs h.0 end h.2 f
+
+-- before anything was read
+pub failed-first : (s : Settings) (last : Bool) (c : Caller) (text out rest left out_now : Option (List ℕ)) (points : List ℕ) (signs : List Sign) (end : End)
+    → Fails out end out_now → Turn s last c c text out (Some end) rest left out_now points points signs signs
+failed-first s last c None out rest left out_now points signs end f = untold_failure s last c out out rest left out_now points signs end f
+failed-first s last c (Some text) out rest left out_now points signs end f = behind_failure s last c text out out rest left out_now points signs false end (adds-nothing out out refl) f
+
+refused_by : (s : Settings) (last : Bool) (c : Caller) (text out mid rest left out_now : Option (List ℕ)) (points : List ℕ) (signs : List Sign) (fault : WireFault) (held : List ℕ) (end : End)
+    → RequestTells (room_of s) text out (got.Refused fault) held left mid → RefusesBy fault end → Writes mid (spelled (wire_reply s.body fault)) (Some end) out_now
+    → Turn s last c c text out (Some end) rest left out_now points points signs signs
+refused_by s last c text out mid rest left out_now points signs fault held ends.Ended h r w = absurd r
+refused_by s last c text out mid rest left out_now points signs fault held ends.Asked h r w = absurd r
+refused_by s last c text out mid rest left out_now points signs fault held ends.Served h r w = absurd r
+refused_by s last c None out mid rest left out_now points signs fault held (ends.Refused e) h r w = stopped-turn s last c None out (ends.Refused e) rest left out_now points signs tt tt
+refused_by s last c (Some text) out mid rest left out_now points signs fault held (ends.Refused e) h r w =
+    stopped-turn s last c (Some text) out (ends.Refused e) rest left out_now points signs tt
+    (h.0, subst (λ (x : WireFault). Next (room_of s) text (Refused x h.0)) (sym r) h.1, (mid, h.2, subst (λ (x : WireFault). Appends mid out_now (spelled (wire_reply s.body x))) (sym r) w))
+refused_by s last c text out mid rest left out_now points signs fault held ends.Truncated h r w = absurd r
+refused_by s last c text out mid rest left out_now points signs fault held ends.ReadFault h r w = absurd r
+refused_by s last c None out mid rest left out_now points signs fault held (ends.WriteFault n) h r w = stopped-turn s last c None out (ends.WriteFault n) rest left out_now points signs tt tt
+refused_by s last c (Some text) out mid rest left out_now points signs fault held (ends.WriteFault n) h r w =
+    stopped-turn s last c (Some text) out (ends.WriteFault n) rest left out_now points signs tt (inr (inl (fault, (h.0, h.1, (mid, h.2, w)))))
+refused_by s last c text out mid rest left out_now points signs fault held ends.Memory h r w = absurd r
+
+pub refused-turn : (s : Settings) (last : Bool) (c : Caller) (text out mid rest left out_now : Option (List ℕ)) (points : List ℕ) (signs : List Sign) (fault : WireFault) (held : List ℕ) (end : End)
+    → RequestTells (room_of s) text out (got.Refused fault) held left mid → RefusesSo s.body fault mid end out_now
+    → Turn s last c c text out (Some end) rest left out_now points points signs signs
+refused-turn s last c text out mid rest left out_now points signs fault held end h (inl r) = refused_by s last c text out mid rest left out_now points signs fault held end h r.0 r.1
+refused-turn s last c None out mid rest left out_now points signs fault held end h (inr f) = untold_failure s last c out mid rest left out_now points signs end f
+refused-turn s last c (Some text) out mid rest left out_now points signs fault held end h (inr f) = behind_failure s last c text out mid rest left out_now points signs h.0 end h.2 f
+
+-- ---- the first turn
+
+tells-nothing : (held : List ℕ) (o : Option (List ℕ)) → held ≡ [] → prepend_known held o ≡ o
 tells-nothing held None e = refl
 tells-nothing held (Some xs) e = ap (λ (l : List ℕ). Some (l ++ xs)) e
 
-pub none-answered : (s : Settings) (before out : Option (List ℕ)) → SoFar s s.requests before out before out
-none-answered s None out = tt
-none-answered s (Some text) out = record { asked = []; asks = refl; open_ = All-nil StaysOpen; count = omega arith; wrote = adds-nothing out out refl }
+pub none-read : (s : Settings) (c : Caller) (text out : Option (List ℕ)) (held points : List ℕ) (signs : List Sign) → held ≡ [] → points ≡ [] → signs ≡ [] → SoFar s s.requests c c text out (prepend_known held text) out points signs
+none-read s c text out held points signs h p g =
+    subst (λ (left : Option (List ℕ)). SoFar s s.requests c c text out left out points signs) (sym (tells-nothing held text h)) (none-yet s c text out points signs p g)
 
-one-more : (s : Settings) (n : ℕ) (text mid : List ℕ) (unread left out out_mid out_now : Option (List ℕ)) → 0 < n → Answered s n text out mid out_mid → TurnTells s (nat_le n 1) (Some mid) out_mid None unread left out_now
-    → SoFar s (n - 1) (Some text) out left out_now
-one-more s n text mid unread None out out_mid out_now some a t = absurd cc
-one-more s n text mid unread (Some rest) out out_mid out_now some a t =
-    let same : t.1 ≡ rest = cc in
-    let last : flat_map answered (a.asked ++ t.0 ∷ []) ≡ flat_map answered a.asked ++ answered t.0 =
-    flat_map-append answered a.asked (t.0 ∷ []) ∙ ap (λ (l : List ℕ). flat_map answered a.asked ++ l) (append-nil (answered t.0)) in
-    record {
-      asked = a.asked ++ t.0 ∷ [];
-      asks = asks-more (room_of s) text mid rest a.asked t.0 a.asks (rw (← same) t.3);
-      open_ = All-append StaysOpen a.asked (t.0 ∷ []) a.open_ (All-cons StaysOpen t.0 [] t.4 (All-nil StaysOpen));
-      count = omega (arith, a.count, some, length-append a.asked (t.0 ∷ []));
-      wrote = rw last (Appends-then out out_mid out_now (flat_map answered a.asked) (answered t.0) a.wrote t.6);
-    }
-
-pub turn-more : (s : Settings) (n : ℕ) (before now unread left out out_mid out_now : Option (List ℕ)) → 0 < n → SoFar s n before out now out_mid → TurnTells s (nat_le n 1) now out_mid None unread left out_now
-    → SoFar s (n - 1) before out left out_now
-turn-more s n None now unread left out out_mid out_now some a t = tt
-turn-more s n (Some text) None unread left out out_mid out_now some a t = absurd a
-turn-more s n (Some text) (Some mid) unread left out out_mid out_now some a t = one-more s n text mid unread left out out_mid out_now some a t
-
-pub turn-end : (s : Settings) (n : ℕ) (before now unread left out out_mid out_now : Option (List ℕ)) (end : End) → 0 < n → SoFar s n before out now out_mid
-    → TurnTells s (nat_le n 1) now out_mid (Some end) unread left out_now → SessionTells s before unread out end out_now
-turn-end s n None now unread left out out_mid out_now end some a t = tt
-turn-end s n (Some text) None unread left out out_mid out_now end some a t = absurd a
-turn-end s n (Some text) (Some mid) unread left out out_mid out_now end some a t = record {
-  answered_first = a.asked;
-  rest = mid;
-  asks = a.asks;
-  open_ = a.open_;
-  left = n;
-  count = a.count;
-  some = some;
-  tail = t.0;
-  ends_with = t.1;
-  wrote = Appends-then out out_mid out_now (flat_map answered a.asked) t.0 a.wrote t.2;
-}
-
--- a session that found no memory before its first request
-pub failed-first : (s : Settings) (before unread out out_now : Option (List ℕ)) (end : End) → 1 ≤ s.requests → FailureTells out end out_now → SessionTells s before unread out end out_now
-failed-first s None unread out out_now end some f = tt
-failed-first s (Some text) unread out out_now end some f =
-    turn-end s s.requests (Some text) (Some text) unread (Some text) out out out_now end (omega arith) (none-answered s (Some text) out) (failed-turn s (nat_le s.requests 1) text unread (Some text) out out_now end f)
+pub failed-session : (s : Settings) (c : Caller) (text out out_now : Option (List ℕ)) (points : List ℕ) (signs : List Sign) (end : End) → 1 ≤ s.requests → points ≡ [] → signs ≡ [] → Fails out end out_now
+    → Session s c c text text out out_now points signs end
+failed-session s c text out out_now points signs end some p g f =
+    turn-ends s s.requests c c c text out text out text text out_now points points signs signs end some (none-yet s c text out points signs p g)
+    (failed-first s (nat_le s.requests 1) c text out text text out_now points signs end f)

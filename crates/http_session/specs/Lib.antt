@@ -1,3 +1,1 @@
-pub mod Refusals
-pub mod Sessions
-pub mod Turns
+pub mod Serving

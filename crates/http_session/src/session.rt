@@ -1,29 +1,40 @@
 ghost use Rattle.std.specs.Prelude.{◌≡◌, ◌≤◌, [], Some};
-ghost use Rattle.std.specs.Io.KnownBytes.{prepend_known};
 ghost use Rattle.edge_io.specs.Causes.{Rose};
-ghost use Rattle.http_session.specs.Sessions.{SessionTells, IsWriteFault};
-ghost use Rattle.http_session.specs.declared.end.End.TheVariants.{ReadFault};
+ghost use Rattle.session_model.specs.Sessions.{IsWriteFault, Session};
+ghost use Rattle.session_model.specs.declared.end.End.TheVariants.{ReadFault};
 
-use crate::end::{End, SessionEnd};
-use crate::turn::{fail, turn};
+use crate::marks::Marks;
+use crate::serve::fail;
+use crate::turn::turn;
+use book_desk::Desk;
 use edge_io::{Sink, Source};
+use gate::Gate;
 use http_wire::Held;
+use osv_prim::{Ledger, Steps};
+use session_model::{End, SessionEnd};
 use settings::Settings;
 use std::alloc::Global;
 
-/// Reads and answers the requests of a connection (RFC 9112, section 9), until one asks for close, as many
-/// as the settings have are answered, one is refused that no other can follow, or the source ends. No path
-/// is there yet, so each request that is read is answered with code 9.
-pub fn serve_session<S: Source, K: Sink>(
+/// Reads the requests of a connection (RFC 9112, section 9) and answers each over the desk, until one asks for
+/// close, as many as the settings have are answered, one is refused that no other can follow, or the source
+/// ends. The settings are the desk's. The gate's hooks stand round each job of a publication.
+///
+/// After a write fault nothing more is written. Where a request finds no memory, the reply of such a server
+/// is written and the session ends; an import has then entered nothing, and a publication may have come.
+pub fn serve_session<D: Desk, G: Gate, S: Source, K: Sink, L: Ledger>(
     alloc: Global,
+    desk: &mut D,
+    gate: &G,
     source: &mut S,
     sink: &mut K,
     settings: &Settings,
+    steps: &mut Steps<L>,
 ) -> SessionEnd
-    requires { 1 ≤ settings.now.requests }
+    requires some { 1 ≤ settings.now.requests }
+    requires same { (D.caller desk.old).settings ≡ settings.now }
 
-    // Where the source tells its bytes, the session is the one over all of them.
-    ensures tells { SessionTells settings.now (S.left source.old) (S.left source.new) (K.held sink.old) result.end (K.held sink.new) }
+    // The session: its requests one after another, each with its point, its sign and its reply.
+    ensures session { Session settings.now (D.caller desk.old) (D.caller desk.new) (S.left source.old) (S.left source.new) (K.held sink.old) (K.held sink.new) result.points.items result.signs.items result.end }
 
     // A fault comes only where one rose in this call.
     ensures read_later { S.faults source.old ≤ S.faults source.new }
@@ -31,23 +42,65 @@ pub fn serve_session<S: Source, K: Sink>(
     ensures read_fault { result.end ≡ ReadFault → Rose (S.faults source.old) (S.faults source.new) }
     ensures write_fault { IsWriteFault result.end → Rose (K.faults sink.old) (K.faults sink.new) }
 {
-    let end = match Held::new(alloc) {
-        Ok(mut held) => serve_all(alloc, source, sink, &mut held, settings),
-        Err(_) => fail(sink),
+    let mut marks = Marks {
+        points: Vec::new(alloc),
+        signs: Vec::new(alloc),
     };
-    SessionEnd { end }
+    let end = serve_from(alloc, desk, gate, source, sink, settings, &mut marks, steps);
+    SessionEnd {
+        points: marks.points,
+        signs: marks.signs,
+        end,
+    }
 }
 
-fn serve_all<S: Source, K: Sink>(
+fn serve_from<D: Desk, G: Gate, S: Source, K: Sink, L: Ledger>(
     alloc: Global,
+    desk: &mut D,
+    gate: &G,
+    source: &mut S,
+    sink: &mut K,
+    settings: &Settings,
+    marks: &mut Marks,
+    steps: &mut Steps<L>,
+) -> End
+    requires some { 1 ≤ settings.now.requests }
+    requires same { (D.caller desk.old).settings ≡ settings.now }
+    requires points { marks.old.points.items ≡ [] }
+    requires signs { marks.old.signs.items ≡ [] }
+    ensures session { Session settings.now (D.caller desk.old) (D.caller desk.new) (S.left source.old) (S.left source.new) (K.held sink.old) (K.held sink.new) marks.new.points.items marks.new.signs.items result }
+    ensures read_later { S.faults source.old ≤ S.faults source.new }
+    ensures write_later { K.faults sink.old ≤ K.faults sink.new }
+    ensures read_fault { result ≡ ReadFault → Rose (S.faults source.old) (S.faults source.new) }
+    ensures write_fault { IsWriteFault result → Rose (K.faults sink.old) (K.faults sink.new) }
+{
+    match Held::new(alloc) {
+        Ok(mut held) => {
+            serve_all(
+                alloc, desk, gate, source, sink, &mut held, settings, marks, steps,
+            )
+        }
+        Err(_) => fail(sink),
+    }
+}
+
+fn serve_all<D: Desk, G: Gate, S: Source, K: Sink, L: Ledger>(
+    alloc: Global,
+    desk: &mut D,
+    gate: &G,
     source: &mut S,
     sink: &mut K,
     held: &mut Held,
     settings: &Settings,
+    marks: &mut Marks,
+    steps: &mut Steps<L>,
 ) -> End
     requires some { 1 ≤ settings.now.requests }
+    requires same { (D.caller desk.old).settings ≡ settings.now }
     requires held { held.old ≡ [] }
-    ensures tells { SessionTells settings.now (S.left source.old) (S.left source.new) (K.held sink.old) result (K.held sink.new) }
+    requires points { marks.old.points.items ≡ [] }
+    requires signs { marks.old.signs.items ≡ [] }
+    ensures session { Session settings.now (D.caller desk.old) (D.caller desk.new) (S.left source.old) (S.left source.new) (K.held sink.old) (K.held sink.new) marks.new.points.items marks.new.signs.items result }
     ensures read_later { S.faults source.old ≤ S.faults source.new }
     ensures write_later { K.faults sink.old ≤ K.faults sink.new }
     ensures read_fault { result ≡ ReadFault → Rose (S.faults source.old) (S.faults source.new) }
@@ -55,7 +108,18 @@ fn serve_all<S: Source, K: Sink>(
 {
     let mut left = settings.requests;
     'requests: loop {
-        match turn(alloc, source, sink, held, settings, left <= 1) {
+        match turn(
+            alloc,
+            desk,
+            gate,
+            source,
+            sink,
+            held,
+            settings,
+            left <= 1,
+            marks,
+            steps,
+        ) {
             Some(end) => return end,
             None => left -= 1,
         }

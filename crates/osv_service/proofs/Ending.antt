@@ -14,7 +14,7 @@ use Rattle.command_line.specs.declared.command.Command.{Command}
 use Rattle.command_line.specs.declared.command.Command.TheVariants.{Ask, Check, Replay}
 use Rattle.osv_prim.specs.declared.subject.Subject.{Subject}
 use Rattle.settings.specs.declared.Settings.{Settings}
-use Rattle.osv_service.specs.Run.{usage, WritesFront, Declines, Does, Answers, Ends, Replays}
+use Rattle.osv_service.specs.Run.{usage, WritesFront, Declines, Does, Answers, Ends, FailsFirst, Replays}
 
 four_or_not : (n : ℕ) → (n ≡ 4) ⊎ (n ≢ 4)
 four_or_not n =
@@ -105,8 +105,8 @@ pub does_check : (c : Command) (limit status : ℕ) (old new held_old held_new :
 does_check c limit status old new held_old held_new sb sn kb kn is a = subst (λ (x : Command). Does x status old new held_old held_new sb sn kb kn) (sym is) a
 
 pub does_replay : (c : Command) (settings : Settings) (status : ℕ) (old new held_old held_new : Option (List ℕ)) (sb sn kb kn : ℕ) → c ≡ Replay settings
-    → Replays settings status old new held_old held_new sb sn kb kn → Does c status old new held_old held_new sb sn kb kn
-does_replay c settings status old new held_old held_new sb sn kb kn is r = subst (λ (x : Command). Does x status old new held_old held_new sb sn kb kn) (sym is) (inl r)
+    → Replays settings status old new held_old held_new sb sn kb kn ⊎ FailsFirst status old new held_old held_new sb sn → Does c status old new held_old held_new sb sn kb kn
+does_replay c settings status old new held_old held_new sb sn kb kn is r = subst (λ (x : Command). Does x status old new held_old held_new sb sn kb kn) (sym is) r
 
 pub declines_by : (status : ℕ) (text : List ℕ) (held_old held_new : Option (List ℕ)) (kb kn : ℕ) → text ≡ usage
     → (status ≢ 4 → Appends held_old held_new text) → (status ≢ 4 → status ≡ 2) → WritesFront held_old held_new text → (status ≡ 4 → Rose kb kn)

@@ -1,5 +1,5 @@
 -- What a run does to its source and its sink (our own).
-use Rattle.std.specs.Prelude.{◌≡◌, ◌≢◌, ◌⊎◌, ◌≤◌, ℕ, List, take, Option, IfSome, Result, Ok, Err, codes}
+use Rattle.std.specs.Prelude.{◌≡◌, ◌≢◌, ◌⊎◌, ℕ, List, take, Option, IfSome, Result, Ok, Err, codes}
 use Rattle.std.specs.Io.KnownBytes.{Appends, Keeps, IsAtEnd}
 use Rattle.edge_io.specs.Causes.{Rose}
 use Rattle.line_input.specs.declared.input.ReadStop.{ReadStop}
@@ -11,9 +11,12 @@ use Rattle.ask.specs.declared.output.Output.{Output}
 use Rattle.command_line.specs.declared.command.Command.{Command}
 use Rattle.command_line.specs.declared.command.Command.TheVariants.{Ask, Check, Replay}
 use Rattle.settings.specs.declared.Settings.{Settings}
-use Rattle.http_session.specs.declared.end.End.{End}
-use Rattle.http_session.specs.declared.end.End.TheVariants as ends
-use Rattle.http_session.specs.Sessions.{SessionTells}
+use Rattle.book_model.specs.Desk.{Caller}
+use Rattle.desks.specs.Alone.{new_caller}
+use Rattle.session_model.specs.declared.end.End.{End}
+use Rattle.session_model.specs.declared.end.End.TheVariants as ends
+use Rattle.session_model.specs.declared.sign.Sign.{Sign}
+use Rattle.session_model.specs.Sessions.{Session}
 
 abbrev pub usage : List ℕ
 usage = codes "usage: osv_service ask [--input N] ECOSYSTEM NAME [VERSION]\n       osv_service ask [--input N] --commit OID [ECOSYSTEM NAME]\n       osv_service check [--input N]\n       osv_service replay [SETTINGS]\n       osv_service drill SEED SIZE\n       osv_service serve [SETTINGS] [--lanes N] [--helpers N] ADDRESS\n"
@@ -56,11 +59,14 @@ status_behind ends.ReadFault = 3
 status_behind (ends.WriteFault n) = 4
 status_behind ends.Memory = 6
 
--- The input was answered as one session: the status is by its end, and a fault comes only where one rose.
+-- The input was answered as one session over a book of its own, which began with no entry: the status is by its end, and a fault comes only where one rose.
 pub record Replays (settings : Settings) (status : ℕ) (left_old left_new held_old held_new : Option (List ℕ)) (source_before source_now sink_before sink_now : ℕ) : Type 0 where
   pub end : End
   pub same : status ≡ status_behind end
-  pub session : SessionTells settings left_old left_new held_old end held_new
+  pub points : List ℕ
+  pub signs : List Sign
+  pub behind : Caller
+  pub session : Session settings (new_caller settings) behind left_old left_new held_old held_new points signs end
   pub source_fault : status ≡ 3 → Rose source_before source_now
   pub sink_fault : status ≡ 4 → Rose sink_before sink_now
 

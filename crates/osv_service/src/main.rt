@@ -3,6 +3,8 @@
 
 mod program;
 #[cfg(test)]
+mod replay_tests;
+#[cfg(test)]
 mod tests;
 
 ghost use Rattle.std.specs.Prelude.{◌≡◌, ◌≤◌, None, Some, map, string_bytes};

@@ -2,13 +2,16 @@ ghost use Rattle.std.specs.Prelude.{◌≡◌, ◌≢◌, ◌≤◌, ◌⊎◌, 
 ghost use Rattle.std.specs.Io.KnownBytes.{Appends};
 ghost use Rattle.edge_io.specs.Causes.{Rose};
 ghost use Rattle.command_line.specs.Commands.{command, IsInRange};
-ghost use Rattle.http_session.specs.Sessions.{IsWriteFault};
-ghost use Rattle.http_session.specs.declared.end.End.TheVariants.{ReadFault};
-ghost use Rattle.osv_service.specs.Run.{Declines, Does, Ends, Replays, Untouched, WritesFront, status_behind};
+ghost use Rattle.settings.specs.Ranges.{AreInRange};
+ghost use Rattle.session_model.specs.Sessions.{IsWriteFault};
+ghost use Rattle.session_model.specs.declared.end.End.TheVariants.{ReadFault};
+ghost use Rattle.osv_service.specs.Run.{Declines, Does, Ends, FailsFirst, Replays, Untouched, WritesFront, status_behind};
 
 use ask::Output;
 use command_line::{Command, read};
+use desks::OwnDesk;
 use edge_io::{Sink, Source, write_whole};
+use gate::OpenGate;
 use http_session::{End, serve_session};
 use line_input::ReadStop;
 use osv_prim::{Ledger, Steps};
@@ -64,22 +67,27 @@ fn done<S: Source, K: Sink, L: Ledger>(
             let output = ask::check(alloc, *input, source);
             end(sink, output)
         }
-        Command::Replay(settings) => replay(alloc, settings, source, sink),
+        Command::Replay(settings) => replay(alloc, settings, source, sink, steps),
     }
 }
 
-// Answers the requests of the source, as one session.
-fn replay<S: Source, K: Sink>(
+// Answers the requests of the source, as one session over a new book.
+fn replay<S: Source, K: Sink, L: Ledger>(
     alloc: Global,
     settings: &Settings,
     source: &mut S,
     sink: &mut K,
+    steps: &mut Steps<L>,
 ) -> u8
-    requires { 1 ≤ settings.now.requests }
+    requires { AreInRange settings.now }
     ensures { Replays settings.now result (S.left source.old) (S.left source.new) (K.held sink.old) (K.held sink.new)
-        (S.faults source.old) (S.faults source.new) (K.faults sink.old) (K.faults sink.new) }
+        (S.faults source.old) (S.faults source.new) (K.faults sink.old) (K.faults sink.new)
+        ⊎ FailsFirst result (S.left source.old) (S.left source.new) (K.held sink.old) (K.held sink.new) (S.faults source.old) (S.faults source.new) }
 {
-    let session = serve_session(alloc, source, sink, settings);
+    let Ok(mut desk) = OwnDesk::new(alloc, *settings) else {
+        return 6;
+    };
+    let session = serve_session(alloc, &mut desk, &OpenGate, source, sink, settings, steps);
     status_behind(session.end)
 }
 

@@ -31,7 +31,7 @@ const OVER: &str = concat!(
 );
 
 // The status of a run, and whether the bytes that were written are the wanted ones.
-fn run_over(
+pub(crate) fn run_over(
     rt: &HostRuntime,
     words: &[&str],
     input: &str,
@@ -79,11 +79,11 @@ const CHECKED: &str = concat!(
 );
 
 // What a run is given, and what it has to end with.
-struct Run {
-    words: &'static [&'static str],
-    input: &'static str,
-    status: u8,
-    output: &'static str,
+pub(crate) struct Run {
+    pub(crate) words: &'static [&'static str],
+    pub(crate) input: &'static str,
+    pub(crate) status: u8,
+    pub(crate) output: &'static str,
 }
 
 const SPELLED: &str =
