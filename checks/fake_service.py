@@ -1,8 +1,7 @@
 """A small service that listens on a loopback port and misbehaves as it is told; the checks of the clients import it, and it
 does nothing alone.
 
-What it answers is the model's (service_model.py), over one history for all connections. It also takes streams of commits,
-of which it counts the commits.
+What it answers is the model's (service_model.py), over one history for all connections.
 """
 import socket
 import threading
@@ -113,10 +112,6 @@ class Fake:
         return found[:len(found) // 2] if self.count in self.cuts else found
 
     def usual(self, request, closes):
-        if request.path == b"/x/repo":
-            self.service.history.append(0)
-            commits = request.body.count(b"\noriginal-oid ") and request.body.count(b"commit refs/")
-            return wire_model.reply(200, b'{"entry":0,"commits":%d}' % commits, closes)
         if request.path == b"/x/publish" and self.building:
             self.building -= 1
             return wire_model.reply(200, b'{"state":"building","out":1,"took":3}', closes)

@@ -7,6 +7,7 @@ import json
 import re
 from urllib.parse import unquote_to_bytes
 
+from commits_model import affects, repo_key
 from version_model import U64, base, contains, normal_name, order_of
 
 ID = re.compile(r"[A-Za-z0-9_.:+-]{1,128}")
@@ -112,7 +113,7 @@ def read_range(value):
     events = [read_event(event) for event in events]
     if all(kind != "introduced" for kind, _ in events):
         raise Fault(12, "NoIntroduced")
-    return kind, events
+    return kind, events, repo_key(repo) if kind == "GIT" else None
 
 
 def read_package(value):
@@ -155,7 +156,7 @@ class Advisory:
         self.entries = [read_entry(one) for one in member(value, "affected", list, (7, "WrongType(Affected)")) or []]
 
     def weight(self):
-        git = sum(kind == "GIT" for _, ranges, _ in self.entries for kind, _ in ranges)
+        git = sum(kind == "GIT" for _, ranges, _ in self.entries for kind, _, _ in ranges)
         return 64 + len(self.text) + 64 * git
 
     def whole(self):
@@ -164,18 +165,25 @@ class Advisory:
     def brief(self):
         return b'{"id":"%s","modified":"%s"}' % (self.id.encode(), self.modified.encode())
 
-    def is_hit_by(self, query):
-        if self.withdrawn or query.commit:
+    def is_hit_by(self, query, graphs):
+        """Whether a query lists it, where repositories have these graphs by their keys."""
+        if self.withdrawn:
             return False
-        ecosystem, name = query.package
-        for package, ranges, versions in self.entries:
-            if package and package[1] == name and ecosystem in (package[0], base(package[0])):
-                if query.version is None or query.version in versions:
-                    return True
-                orders = ((order_of(kind, package[0]), events) for kind, events in ranges)
-                if any(order and contains(order, events, query.version) for order, events in orders):
-                    return True
-        return False
+        entries = [one for one in self.entries if query.package is None or matches(one[0], query.package)]
+        if query.commit is not None:
+            oid = query.commit.lower().encode()
+            return any(kind == "GIT" and affects(events, graphs.get(repo, []), oid) for _, ranges, _ in entries for kind, events, repo in ranges)
+        return any(query.version is None or is_touched(entry, query.version) for entry in entries)
+
+
+def matches(package, asked):
+    return package is not None and package[1] == asked[1] and asked[0] in (package[0], base(package[0]))
+
+
+def is_touched(entry, version):
+    package, ranges, versions = entry
+    orders = ((order_of(kind, package[0]), events) for kind, events, _ in ranges)
+    return version in versions or any(order and contains(order, events, version) for order, events in orders)
 
 
 # ---- queries

@@ -2,16 +2,19 @@
 
 `replayed(words, text)` answers what `osv_service WORDS` has to write for the text. It is written from README.md,
 docs/SERVICE.md and docs/DEFINITIONS.md, keeps a list of what happened, and makes each answer anew from it; it shares no
-code with the program. Commits of repositories are not among what it takes, so a query of a commit hits nothing.
+code with the program.
 """
 import re
-from urllib.parse import unquote_to_bytes
+from urllib.parse import parse_qsl, unquote_to_bytes
 
+from commits_model import GraphFault, Stream, StreamFault, new_rows, repo_key
 from reading_model import Advisory, Fault, Query, json_of, read_batch
 from version_model import U64
 from wire_model import refusal, reply, session
 
-SETTINGS = {"keep": 8, "page": 100, "weight": 1_073_741_824, "body": 268_435_456, "requests": 1_000_000}
+SETTINGS = {
+    "keep": 8, "page": 100, "weight": 1_073_741_824, "commits": 16_777_216, "body": 268_435_456, "requests": 1_000_000,
+}
 
 
 class Reply(Exception):
@@ -25,25 +28,45 @@ def refused(status, code, message, allow=None):
     return Reply(status, refusal(code, message), allow=allow)
 
 
+class Rows:
+    """Commits that came to a repository's graph, each with its parents."""
+
+    def __init__(self, repo, rows):
+        self.repo, self.rows = repo, rows
+
+    def weight(self):
+        return 64 + len(self.repo.encode()) + sum(64 + 32 * len(parents) for _, parents in self.rows)
+
+
 class Service:
-    """One book: the entries of its history are advisories, and for publications how many imports they have."""
+    """One book: the entries of its history are advisories, rows, and for publications how many imports they have."""
 
     def __init__(self, **settings):
         self.settings = {**SETTINGS, **settings}
         self.history = []
 
     def imports(self):
-        return [entry for entry in self.history if isinstance(entry, Advisory)]
+        return [entry for entry in self.history if not isinstance(entry, int)]
 
     def publications(self):
-        return [0] + [entry for entry in self.history if not isinstance(entry, Advisory)]
+        return [0] + [entry for entry in self.history if isinstance(entry, int)]
 
     def newest(self):
         return len(self.publications()) - 1
 
     def records(self, snapshot):
         """The advisories that count in a snapshot, by their ids."""
-        return {one.id: one for one in self.imports()[:self.publications()[snapshot]]}
+        return {one.id: one for one in self.prefix(snapshot) if isinstance(one, Advisory)}
+
+    def prefix(self, snapshot):
+        return self.imports()[:self.publications()[snapshot]]
+
+    def graph(self, imports, repo):
+        return [row for one in imports if isinstance(one, Rows) and one.repo == repo for row in one.rows]
+
+    def graphs(self, snapshot):
+        prefix = self.prefix(snapshot)
+        return {one.repo: self.graph(prefix, one.repo) for one in prefix if isinstance(one, Rows)}
 
     # Each of these raises the reply.
     def add(self, body):
@@ -51,11 +74,29 @@ class Service:
             advisory = Advisory(body)
         except Fault as fault:
             raise refused(400, 12, f"record refused: {fault.number} {fault.name}")
+        raise Reply(200, b'{"entry":%d}' % self.enter(advisory))
+
+    def enter(self, entry):
+        """The place of an entry, for which there is room."""
         used, limit = sum(one.weight() for one in self.imports()), self.settings["weight"]
-        if used + advisory.weight() > limit:
+        if used + entry.weight() > limit:
             raise refused(507, 20, f"journal full, used {used} limit {limit}")
-        self.history.append(advisory)
-        raise Reply(200, b'{"entry":%d}' % (len(self.history) - 1))
+        self.history.append(entry)
+        return len(self.history) - 1
+
+    def grow(self, query, body):
+        urls = [value for name, value in parse_qsl(query.decode("latin-1"), True, encoding="utf-8", errors="replace") if name == "url"]
+        repo, most = repo_key(urls[0]) if urls else "", self.settings["commits"]
+        if not repo:
+            raise refused(400, 21, "repo missing")
+        graph = self.graph(self.imports(), repo)
+        try:
+            rows = new_rows(graph, Stream(body, most).read(), most)
+        except StreamFault as fault:
+            raise refused(400, 14, f"stream refused: {fault.number} {fault.name} at {fault.at}")
+        except GraphFault as fault:
+            raise refused(400, 15, f"graph refused: {fault.number} {fault.name} at row {fault.row}")
+        raise Reply(200, b'{"entry":%d,"commits":%d}' % (self.enter(Rows(repo, rows)), len(graph) + len(rows)))
 
     def publish(self):
         count = len(self.imports())
@@ -78,7 +119,8 @@ class Service:
     def page(self, query, snapshot, spelled):
         """The body of a page, in which an advisory is spelled so."""
         after = query.token[1] if query.token else ""
-        hits = sorted((one for one in self.records(snapshot).values() if one.is_hit_by(query)), key=lambda one: one.id)
+        records, graphs = self.records(snapshot).values(), self.graphs(snapshot)
+        hits = sorted((one for one in records if one.is_hit_by(query, graphs)), key=lambda one: one.id)
         hits = [one for one in hits if one.id > after]
         page = hits[:self.settings["page"]]
         if not page:
@@ -119,6 +161,7 @@ class Service:
             b"/v1/query": lambda least: self.query(request.body, least),
             b"/v1/querybatch": lambda least: self.batch(request.body, least),
             b"/x/import": lambda least: self.add(request.body),
+            b"/x/repo": lambda least: self.grow(request.query, request.body),
             b"/x/publish": lambda least: self.publish(),
         }.get(request.path)
 
