@@ -12,6 +12,7 @@ const MOST_BYTES: usize = 1 << 24;
 /// What is read of an advisory. Its texts are borrowed from the line where they have no escapes.
 pub struct Advisory<'a> {
     pub id: Cow<'a, str>,
+    pub modified: Cow<'a, str>,
     is_withdrawn: bool,
     affected: Vec<Affected<'a>>,
 }
@@ -32,6 +33,16 @@ impl<'a> Advisory<'a> {
         let text = std::str::from_utf8(line).map_err(|_| Fault::NotJson)?;
         let value: Value<Advisory> = serde_json::from_str(text).map_err(|_| Fault::NotJson)?;
         value.needed(Fault::NotObject, Fault::NotObject)
+    }
+
+    /// The packages of its entries.
+    pub fn packages(&self) -> impl Iterator<Item = &Package<'a>> {
+        self.affected.iter().filter_map(|entry| entry.package.as_ref())
+    }
+
+    pub fn git_ranges(&self) -> usize {
+        let ranges = |entry: &Affected| entry.ranges.iter().filter(|range| range.is_git()).count();
+        self.affected.iter().map(ranges).sum()
     }
 
     /// Whether it touches the package, in the version where one is asked.
@@ -96,7 +107,7 @@ impl<'de> Form<'de> for Advisory<'de> {
                 Fault::BadId,
             )?;
             let modified = modified.needed(Fault::NoModified, Fault::BadModified)?;
-            tested(modified, |time| is_time(time), Fault::BadModified)?;
+            let modified = tested(modified, |time| is_time(time), Fault::BadModified)?;
             let wrong = Fault::WrongType(Field::Withdrawn);
             let is_withdrawn = match withdrawn.if_there(wrong)? {
                 Some(time) => tested(true, |_| is_time(&time), wrong)?,
@@ -107,6 +118,7 @@ impl<'de> Form<'de> for Advisory<'de> {
                 .unwrap_or_default();
             Ok(Advisory {
                 id,
+                modified,
                 is_withdrawn,
                 affected,
             })

@@ -1,20 +1,12 @@
 //! Does what `osv_service ask` does, in plain Rust, to be measured beside it.
 
-mod advisory;
-mod fault;
-mod json;
-mod package;
-mod range;
-mod time;
-mod version;
-
-use advisory::Advisory;
-use fault::Fault;
-use package::Package;
 use std::collections::BTreeSet;
 use std::io::{self, BufRead, BufReader, Read, Write};
 use std::process::ExitCode;
-use version::Version;
+use twin::advisory::Advisory;
+use twin::fault::Fault;
+use twin::package::Package;
+use twin::version::Version;
 
 const MOST_INPUT: u64 = 1 << 30;
 

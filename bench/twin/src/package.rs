@@ -2,8 +2,8 @@ use std::borrow::Cow;
 
 /// A package under its normal name.
 pub struct Package<'a> {
-    ecosystem: Cow<'a, str>,
-    name: Cow<'a, str>,
+    pub ecosystem: Cow<'a, str>,
+    pub name: Cow<'a, str>,
 }
 
 impl<'a> Package<'a> {

@@ -61,6 +61,10 @@ impl RangeKind {
 }
 
 impl Range<'_> {
+    pub fn is_git(&self) -> bool {
+        self.kind == RangeKind::Git
+    }
+
     /// Whether the version is in the range of a package of this ecosystem.
     pub fn contains<'b>(&'b self, base: &str, version: &'b Version<'b>) -> bool {
         match self.kind.order(base) {
