@@ -1,8 +1,9 @@
-ghost use Rattle.std.specs.Prelude.{◌≡◌, option_map};
+ghost use Rattle.std.specs.Prelude.{◌≡◌, ℕ, List, option_map};
 ghost use Rattle.serde_json.specs.Find.{as_object};
 ghost use Rattle.osv_prim.specs.Results.{Gives, each, or_refuse};
 ghost use Rattle.json_view.specs.Json.{json};
 ghost use Rattle.json_view.specs.Views.{document_value, node_value, element_values};
+ghost use Rattle.osv_record.specs.Parts.{of_parts};
 ghost use Rattle.osv_record.specs.Reading.{advisory, record_of, affected_of, entry_of, version_of, id_of, modified_of, time_from, withdrawn_of};
 
 use crate::fault::{Member, RecordFault};
@@ -76,10 +77,33 @@ fn version_of<'a>(node: Node<'_, 'a>) -> Result<&'a str, Stop<RecordFault>>
     text_or(node, RecordFault::WrongType(Member::Version))
 }
 
-fn versions_of(alloc: Global, mut elements: Elements) -> Result<Lists<u8>, Stop<RecordFault>>
+// How many texts are among elements, and how many bytes they have.
+#[derive(Clone, Copy)]
+struct Size {
+    texts: usize,
+    bytes: usize,
+}
+
+fn size_of(mut elements: Elements) -> Size {
+    let mut size = Size { texts: 0, bytes: 0 };
+    while let Some(node) = elements.next() {
+        size.texts = size.texts.saturating_add(1);
+        size.bytes = size
+            .bytes
+            .saturating_add(node.as_str().map_or(0, |text| text.len()));
+    }
+    size
+}
+
+// The versions among elements, in room for so many.
+fn versions_of(
+    alloc: Global,
+    mut elements: Elements,
+    size: Size,
+) -> Result<Lists<u8>, Stop<RecordFault>>
     ensures { Gives (λ l. l) result (each version_of (element_values elements.entry)) }
 {
-    let mut versions = Lists::with_capacity(alloc, elements.len(), 0)?;
+    let mut versions = Lists::with_capacity(alloc, size.texts, size.bytes)?;
     while let Some(node) = elements.next() {
         versions.push(version_of(node)?.as_bytes())?;
     }
@@ -93,10 +117,9 @@ fn entry_of(alloc: Global, node: Node) -> Result<Affected, Stop<RecordFault>>
     object_or(node, RecordFault::WrongType(Member::Entry))?;
     let package = package_of(alloc, node.member("package"))?;
     let ranges = ranges_of(alloc, list_or_none(node.member("ranges"), Member::Ranges)?)?;
-    let versions = versions_of(
-        alloc,
-        list_or_none(node.member("versions"), Member::Versions)?,
-    )?;
+    let listed = node.member("versions");
+    let size = size_of(list_or_none(listed, Member::Versions)?);
+    let versions = versions_of(alloc, list_or_none(listed, Member::Versions)?, size)?;
     Ok(Affected::new(package, ranges, versions)?)
 }
 
@@ -117,9 +140,19 @@ fn affected_of(alloc: Global, found: Option<Node>) -> Result<List<Affected>, Sto
     entries_of(alloc, list_or_none(found, Member::Affected)?)
 }
 
+// What stands in an advisory, beside its bytes.
+#[derive(Drop)]
+pub(crate) struct Parts {
+    pub(crate) id: Id,
+    pub(crate) modified: i128,
+    pub(crate) modified_text: Text,
+    pub(crate) withdrawn: bool,
+    pub(crate) affected: List<Affected>,
+}
+
 #[tactic(auto, unfolding(crate::specs::Reading::record_of))]
-fn record_of(alloc: Global, bytes: &[u8], node: Node) -> Result<Record, Stop<RecordFault>>
-    ensures { Gives (λ r. r) result (record_of bytes.now (node_value node.entry)) }
+fn parts_of(alloc: Global, node: Node) -> Result<Parts, Stop<RecordFault>>
+    ensures { (bytes : List ℕ) → Gives (of_parts bytes) result (record_of bytes (node_value node.entry)) }
 {
     object_or(node, RecordFault::NotObject)?;
     let id = id_of(alloc, node.member("id"))?;
@@ -127,8 +160,13 @@ fn record_of(alloc: Global, bytes: &[u8], node: Node) -> Result<Record, Stop<Rec
     let withdrawn = withdrawn_of(node.member("withdrawn"))?;
     let affected = affected_of(alloc, node.member("affected"))?;
     let modified_text = Text::copy_of(alloc, modified.text)?;
-    let text = Bytes::copy_of(alloc, bytes)?;
-    Ok(Record::new(id, modified.nanos, modified_text, withdrawn, affected, text)?)
+    Ok(Parts {
+        id,
+        modified: modified.nanos,
+        modified_text,
+        withdrawn,
+        affected,
+    })
 }
 
 fn document_of<'a>(
@@ -146,6 +184,21 @@ fn document_of<'a>(
 }
 
 #[tactic(auto, unfolding(crate::specs::Reading::advisory))]
+fn parts_from(
+    alloc: Global,
+    bytes: &[u8],
+    buffers: &mut Buffers,
+) -> Result<Parts, Stop<RecordFault>>
+    ensures { Gives (of_parts bytes.now) result (advisory bytes.now) }
+{
+    if bytes.len() > MOST_BYTES {
+        return Err(Stop::Refused(RecordFault::TooLarge));
+    }
+    let document = document_of(alloc, bytes, buffers)?;
+    parts_of(alloc, document.root())
+}
+
+// The advisory that bytes are, with a copy of them.
 pub(crate) fn record_from(
     alloc: Global,
     bytes: &[u8],
@@ -153,9 +206,31 @@ pub(crate) fn record_from(
 ) -> Result<Record, Stop<RecordFault>>
     ensures { Gives (λ r. r) result (advisory bytes.now) }
 {
-    if bytes.len() > MOST_BYTES {
-        return Err(Stop::Refused(RecordFault::TooLarge));
+    let parts = parts_from(alloc, bytes, buffers)?;
+    let text = Bytes::copy_of(alloc, bytes)?;
+    Ok(Record::new(parts, text)?)
+}
+
+// The advisory that bytes are, which keeps them.
+pub(crate) fn record_keeping(
+    alloc: Global,
+    text: Bytes,
+    buffers: &mut Buffers,
+) -> Result<Record, Stop<RecordFault>>
+    ensures { Gives (λ r. r) result (advisory text) }
+{
+    let parts = parts_from(alloc, text.as_slice(), buffers)?;
+    Ok(Record::new(parts, fitted(text))?)
+}
+
+// The same bytes, without the spare room of their block where it is more than an eighth of them.
+fn fitted(text: Bytes) -> Bytes
+    ensures { result ≡ text }
+{
+    let mut bytes = text.into_vec();
+    let spare = bytes.capacity() - bytes.len();
+    if spare > bytes.len() / 8 {
+        bytes.shrink_to_fit();
     }
-    let document = document_of(alloc, bytes, buffers)?;
-    record_of(alloc, bytes, document.root())
+    Bytes::from_vec(bytes)
 }

@@ -1,9 +1,11 @@
 ghost use Rattle.std.specs.Prelude.{◌≡◌, ◌≢◌, ◌<◌, ◌≤◌, ◌+◌, ◌^◌, Ok, Err, IfOk, IfErr, IfSome, IfNone, map, length};
+ghost use Rattle.osv_prim.specs.declared.stop.Stop.TheVariants.{Refused};
 ghost use Rattle.osv_record.specs.Advisories.{git_ranges, git_ranges_of, is_git};
+ghost use Rattle.osv_record.specs.Parts.{of_parts};
 
 use crate::fault::RecordFault;
 use crate::range::Range;
-use crate::reading::record_from;
+use crate::reading::{Parts, record_from, record_keeping};
 use json_view::Buffers;
 use osv_prim::{Bytes, Id, List, Lists, Memory, PackageKey, RangeKind, Stop, Text};
 use std::alloc::Global;
@@ -105,30 +107,28 @@ impl Record {
         ensures value { IfOk result (λ r. advisory bytes.now ≡ Ok r) }
         ensures refused { IfErr result (λ e. e ≢ RecordFault.Memory → advisory bytes.now ≡ Err e) }
     {
-        match record_from(alloc, bytes, buffers) {
-            Ok(record) => Ok(record),
-            Err(Stop::Memory) => Err(RecordFault::Memory),
-            Err(Stop::Refused(fault)) => Err(fault),
-        }
+        told(record_from(alloc, bytes, buffers))
     }
 
-    pub(crate) fn new(
-        id: Id,
-        modified: i128,
-        modified_text: Text,
-        withdrawn: bool,
-        affected: List<Affected>,
-        text: Bytes,
-    ) -> Result<Record, Memory>
-        ensures { IfOk result (λ r. r ≡ record { id = id; modified = modified; modified_text = modified_text; withdrawn = withdrawn; affected = affected; text = text }) }
+    /// The same of bytes that the advisory then keeps without a copy. Room in their block of more than an
+    /// eighth of them is given back. A refusal lets them go.
+    pub fn keeping(alloc: Global, text: Bytes, buffers: &mut Buffers) -> Result<Record, RecordFault>
+        ensures value { IfOk result (λ r. advisory text ≡ Ok r) }
+        ensures refused { IfErr result (λ e. e ≢ RecordFault.Memory → advisory text ≡ Err e) }
     {
-        match git_ranges_in(affected.as_slice()) {
-            Some(count) if count < PLACES as u64 && affected.len() < PLACES => Ok(Record {
-                id,
-                modified,
-                modified_text,
-                withdrawn,
-                affected,
+        told(record_keeping(alloc, text, buffers))
+    }
+
+    pub(crate) fn new(parts: Parts, text: Bytes) -> Result<Record, Memory>
+        ensures { IfOk result (λ r. r ≡ of_parts text parts) }
+    {
+        match git_ranges_in(parts.affected.as_slice()) {
+            Some(count) if count < PLACES as u64 && parts.affected.len() < PLACES => Ok(Record {
+                id: parts.id,
+                modified: parts.modified,
+                modified_text: parts.modified_text,
+                withdrawn: parts.withdrawn,
+                affected: parts.affected,
                 text,
             }),
             _ => Err(Memory),
@@ -143,6 +143,18 @@ impl Record {
             Some(count) => count as u32,
             None => u32::MAX,
         }
+    }
+}
+
+// Want of memory is a refusal of its own.
+fn told(read: Result<Record, Stop<RecordFault>>) -> Result<Record, RecordFault>
+    ensures value { IfOk result (λ r. read ≡ Ok r) }
+    ensures refused { IfErr result (λ e. e ≢ RecordFault.Memory → read ≡ Err (Refused e)) }
+{
+    match read {
+        Ok(record) => Ok(record),
+        Err(Stop::Memory) => Err(RecordFault::Memory),
+        Err(Stop::Refused(fault)) => Err(fault),
     }
 }
 
