@@ -2,9 +2,9 @@
 use Rattle.std.proofs.Common.{◌≡◌, ℕ, ◌+◌, ◌<◌, ◌≤◌, true, List, [], ◌++◌, length, take, drop, get_or, Option, Some, None, Result, Ok, Err, refl, sym, ap, subst, ◌∙◌, arith, length-append}
 use Rattle.std.specs.Prelude.{◌==◌, IsErr}
 use Rattle.std.specs.Io.KnownBytes.{IsAtEnd, Keeps}
-use Rattle.std.proofs.lemmas.List.{append-nil, drop_all, get_or_append_left, take_all}
+use Rattle.std.proofs.lemmas.List.{append-nil, drop_all, get_or_append_left, length-drop, length-take, take_all}
 use Rattle.line_input.specs.Lines.{NoneBefore}
-use Rattle.line_input.specs.Reader.{Advances, Fills, GivesPiece, Holds, Marks, pending}
+use Rattle.line_input.specs.Reader.{Advances, Fills, GivesPiece, Holds, Marks, given_count, pending}
 use Rattle.line_input.specs.Window.{items}
 use Rattle.line_input.specs.declared.input.ReadStop.{ReadStop}
 use Rattle.line_input.specs.declared.reader.LineReader.{LineReader}
@@ -72,3 +72,19 @@ piece_given rest total old r new (Some xs) z m h =
       end = λ x. absurd cc;
       too_large = λ x. absurd cc;
     }
+
+-- ---- how many bytes were given
+
+pub count_settled : (old new : LineReader) → Marks (pending old) 0 0 old.passed old new → given_count new ≡ given_count old
+count_settled old new m =
+    omega (arith, m.taken, m.given, ap length m.items, length-drop new.given (items new.window))
+
+pub count_filled : (old new : LineReader) (lo ln : Option (List ℕ)) (result : Result Next ReadStop) → old.given ≡ 0 → Fills old new lo ln result → given_count new ≡ given_count old
+count_filled old new lo ln result z f =
+    omega (arith, z, f.taken, f.same.1, ap length f.items, length-append (items old.window) f.more, length-drop old.given (items old.window), length-drop new.given (items new.window))
+
+-- all that is here is given
+pub count_given : (r new : LineReader) → r.given ≡ 0 → Marks (items r.window) (length (items r.window)) (length (items r.window)) r.passed r new
+    → given_count r + length (take new.len (items new.window)) ≤ given_count new
+count_given r new z m =
+    omega (arith, z, r.counted, m.taken, m.len, m.given, ap length m.items, length-take new.len (items new.window), length-drop r.given (items r.window), length-drop new.given (items new.window))

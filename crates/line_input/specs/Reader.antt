@@ -1,5 +1,5 @@
 -- Where a reader of lines stands in all that its source had (our own).
-use Rattle.std.specs.Prelude.{◌≡◌, ◌≤◌, ◌<◌, ◌+◌, ◌-◌, ◌*◌, ◌^◌, ◌++◌, ◌∷◌, [], ℕ, List, true, length, take, drop, Option, IfSome, Some, Result, Ok}
+use Rattle.std.specs.Prelude.{◌≡◌, ◌≤◌, ◌<◌, ◌+◌, ◌-◌, ◌*◌, ◌^◌, ◌++◌, ◌∷◌, [], ℕ, List, Bool, true, false, length, take, drop, Option, IfSome, Some, Result, Ok}
 use Rattle.std.specs.Io.KnownBytes.{IsAtEnd, Consumes, prepend_known}
 use Rattle.line_input.specs.Lines.{CutsLine, behind, numbered}
 use Rattle.line_input.specs.Window.{items}
@@ -58,6 +58,15 @@ pub record GivesPiece (rest : List ℕ) (total : ℕ) (old new : LineReader) (le
   pub kept : (result ≡ Ok Here → ⊥) → Holds rest total new left
   pub end : result ≡ Ok End → (rest ≡ []) × (total ≤ old.limit)
   pub too_large : result ≡ Ok TooLarge → old.limit < total
+
+-- whether so many bytes are within the limit
+abbrev pub IsWithin : ℕ → ℕ → Bool → Type 0
+IsWithin limit total true = total ≤ limit
+IsWithin limit total false = limit < total
+
+-- how many bytes were given so far, at least
+abbrev pub given_count : LineReader → ℕ
+given_count r = r.taken - length (pending r)
 
 -- Bytes were read behind those that are here, some where the answer says so.
 pub record Fills (old new : LineReader) (left_old left_new : Option (List ℕ)) (result : Result Next ReadStop) : Type 0 where

@@ -1,4 +1,4 @@
-ghost use Rattle.std.specs.Prelude.{◌≡◌, ◌<◌, ◌≤◌, ◌+◌, ◌*◌, ◌^◌, ◌∷◌, ◌++◌, [], Ok, IfSome, IfNone, OnOk, IsErrOf, List, ℕ, length, get_or, ◌==◌, ◌≢◌, true, false, Some, Option};
+ghost use Rattle.std.specs.Prelude.{◌≡◌, ◌<◌, ◌≤◌, ◌+◌, ◌*◌, ◌^◌, ◌∷◌, ◌++◌, [], Ok, IfSome, IfNone, IfOk, OnOk, IsErrOf, List, ℕ, length, get_or, ◌==◌, ◌≢◌, true, false, Some, Option};
 ghost use Rattle.edge_io.specs.Causes.{Rose};
 ghost use Rattle.line_input.specs.Lines.{NoneBefore};
 ghost use Rattle.line_input.specs.Window.{items};
@@ -43,7 +43,7 @@ pub struct LineReader {
 
 impl LineReader {
     ghost use Rattle.line_input.specs.Cursor.{line_pair};
-    ghost use Rattle.line_input.specs.Reader.{Advances, Fills, GivesLine, GivesPiece, Holds, KnowsEnd, Marks, MindsEnd, StandsIn, current, pending, to_come};
+    ghost use Rattle.line_input.specs.Reader.{Advances, Fills, GivesLine, GivesPiece, Holds, IsWithin, KnowsEnd, Marks, MindsEnd, StandsIn, current, given_count, pending, to_come};
 
     /// A reader that stands at the front of its source, of which it takes at most `limit` bytes. It takes
     /// no memory.
@@ -65,6 +65,13 @@ impl LineReader {
         }
     }
 
+    /// How many bytes the reader takes of its source at most.
+    pub fn limit(&self) -> u64
+        ensures { result ≡ self.now.limit }
+    {
+        self.limit
+    }
+
     /// The line or piece that was given last, with the number of the last line. Before the first it is empty.
     pub fn line(&self) -> NumberedLine<'_>
         ensures { line_pair result ≡ current self.now }
@@ -74,6 +81,7 @@ impl LineReader {
             text: &self.window.as_slice()[..self.len],
         }
     }
+
     /// The next line that is not empty. At an error nothing is lost, and the call may be made again. After
     /// `End` it answers `End` again; after `TooLarge` it reads no more.
     pub fn next<S: Source>(&mut self, source: &mut S) -> Result<Next, ReadStop>
@@ -98,10 +106,12 @@ impl LineReader {
 
     /// The next piece of what is still to come, in place of lines: some bytes of it, as many as are here.
     /// At an error nothing is lost, and the call may be made again. After `End` it answers `End` again; after
-    /// `TooLarge` it reads no more.
+    /// `TooLarge` it reads no more. All pieces together have fewer than 2^64 bytes.
     pub fn piece<S: Source>(&mut self, source: &mut S) -> Result<Next, ReadStop>
         ensures piece { (rest : List ℕ) → (total : ℕ) → Holds rest total self.old (S.left source.old) → GivesPiece rest total self.old self.new (S.left source.new) result }
         ensures fewer { result ≡ Ok Next.Here → to_come self.new < to_come self.old }
+        ensures count { result ≡ Ok Next.Here → given_count self.old + length (current self.new).1 ≤ given_count self.new }
+        ensures bound { given_count self.new < 2 ^ 64 }
         ensures at_end { MindsEnd self.old self.new (S.left source.old) (S.left source.new) result }
         ensures limit { self.new.limit ≡ self.old.limit }
         ensures failed { IsErrOf result ReadStop.Source → Rose (S.faults source.old) (S.faults source.new) }
@@ -116,6 +126,23 @@ impl LineReader {
         }
         self.give_all();
         Ok(Next::Here)
+    }
+
+    /// Reads on to the end of the source, or past the limit, and gives nothing: whether the end came within
+    /// the limit. At an error nothing is lost, and the call may be made again.
+    pub fn ends_within<S: Source>(&mut self, source: &mut S) -> Result<bool, ReadStop>
+        ensures within { (rest : List ℕ) → (total : ℕ) → Holds rest total self.old (S.left source.old) → IfOk result (IsWithin self.old.limit total) }
+        ensures limit { self.new.limit ≡ self.old.limit }
+        ensures failed { IsErrOf result ReadStop.Source → Rose (S.faults source.old) (S.faults source.new) }
+        ensures later { S.faults source.old ≤ S.faults source.new }
+    {
+        'pieces: loop {
+            match self.piece(source)? {
+                Next::Here => {}
+                Next::End => return Ok(true),
+                Next::TooLarge => return Ok(false),
+            }
+        }
     }
 
     // The next line, also an empty one.
