@@ -9,10 +9,10 @@ use Rattle.ask.specs.Outputs.{IsAnswer, too_large, within}
 use Rattle.ask.specs.declared.output.Output.{Output}
 
 module _ (answer : List ℕ → Output) (limit : ℕ) where
-  at_most : (xs : List ℕ) → length xs ≤ limit → answer xs ≡ within limit answer xs
+  pub at_most : (xs : List ℕ) → length xs ≤ limit → answer xs ≡ within limit answer xs
   at_most xs le = let e : nat_lt limit (length xs) ≡ false = grind (arith, nat_tests) in rw e refl
 
-  beyond : (xs : List ℕ) → limit < length xs → too_large limit ≡ within limit answer xs
+  pub beyond : (xs : List ℕ) → limit < length xs → too_large limit ≡ within limit answer xs
   beyond xs lt = let e : nat_lt limit (length xs) ≡ true = grind (arith, nat_tests) in rw e refl
 
   abbrev pub AnswersTo : Input → Output → Type 0

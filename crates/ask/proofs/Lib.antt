@@ -1,3 +1,4 @@
 pub mod Reading
 pub mod Dividing
 pub mod Answering
+pub mod CheckedLines

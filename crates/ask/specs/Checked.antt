@@ -53,3 +53,7 @@ checked input = record {
 pub record AddsVerdict (line : ℕ × List ℕ) (old new : Verdicts) : Type 0 where
   pub text : new.text.items ≡ old.text.items ++ line_verdict line
   pub refused : new.refused ≡ (old.refused || line_refused line)
+
+-- the verdicts, and 5 where some line was refused
+abbrev pub verdicts_output : Verdicts → Output
+verdicts_output v = record { status = if v.refused then 5 else 0; bytes = v.text.items }

@@ -2,11 +2,9 @@ ghost use Rattle.std.specs.Prelude.{◌≤◌, IfOk, IsErrOf};
 ghost use Rattle.edge_io.specs.Causes.{Rose};
 ghost use Rattle.settings.specs.declared.TheConstants.{MAX_INPUT_BYTES};
 ghost use Rattle.ask.specs.Asked.{asked};
-ghost use Rattle.ask.specs.Checked.{checked};
 ghost use Rattle.ask.specs.Outputs.{IsAnswer, within};
 
 use crate::asked::asked;
-use crate::checked::checked;
 use crate::output::{Output, too_large};
 use edge_io::Source;
 use line_input::{Input, ReadStop, read_all};
@@ -30,20 +28,6 @@ pub fn ask<S: Source, L: Ledger>(
 {
     match read_all(alloc, source, limit as usize)? {
         Input::Whole(bytes) => Ok(asked(alloc, subject, bytes.as_slice(), steps)?),
-        Input::TooLarge => Ok(too_large(alloc, limit)?),
-    }
-}
-
-/// A verdict on each line that is not empty: accepted, with the notices on it, or refused. The input
-/// has at most `limit` bytes.
-pub fn check<S: Source>(alloc: Global, limit: u64, source: &mut S) -> Result<Output, ReadStop>
-    requires { limit ≤ MAX_INPUT_BYTES }
-    ensures answer { IfOk result (IsAnswer (within limit checked) (S.left source.old) (S.left source.new)) }
-    ensures failed { IsErrOf result ReadStop.Source → Rose (S.faults source.old) (S.faults source.new) }
-    ensures later { S.faults source.old ≤ S.faults source.new }
-{
-    match read_all(alloc, source, limit as usize)? {
-        Input::Whole(bytes) => Ok(checked(alloc, bytes.as_slice())?),
         Input::TooLarge => Ok(too_large(alloc, limit)?),
     }
 }

@@ -1,13 +1,16 @@
-ghost use Rattle.std.specs.Prelude.{◌≡◌, Ok, ◌≤◌, ◌⊎◌, ◌++◌, IfOk, OnOk, length, string_bytes, codes};
+ghost use Rattle.std.specs.Prelude.{◌≡◌, Ok, ◌≤◌, ◌++◌, IfOk, IsErrOf, OnOk, string_bytes, codes};
 ghost use Rattle.std.specs.List.{flat_map};
 ghost use Rattle.std.specs.Fmt.{decimal};
 ghost use Rattle.osv_record.specs.Reading.{advisory};
-ghost use Rattle.ask.specs.Checked.{checked, is_refused, notice_line, ok_line, place, refused_verdict, verdict, AddsVerdict};
+ghost use Rattle.ask.specs.Checked.{checked, is_refused, notice_line, ok_line, place, refused_verdict, verdict, verdicts_output, AddsVerdict};
+ghost use Rattle.ask.specs.Outputs.{IsAnswer, within};
+ghost use Rattle.edge_io.specs.Causes.{Rose};
 ghost use Rattle.line_input.specs.Cursor.{line_pair};
 ghost use Rattle.settings.specs.declared.TheConstants.{MAX_INPUT_BYTES};
 
-use crate::output::Output;
-use line_input::{Lines, NumberedLine};
+use crate::output::{Output, too_large};
+use edge_io::Source;
+use line_input::{LineReader, Next, NumberedLine, ReadStop};
 use osv_prim::{Bytes, Memory};
 use osv_record::{Buffers, Record, RecordFault};
 use record_check::{Notice, notices};
@@ -20,26 +23,37 @@ struct Verdicts {
     text: Vec<u8>,
 }
 
-/// What `check` answers to all the bytes of its input.
-#[tactic(auto, unfolding(crate::specs::Checked::checked))]
-pub fn checked(alloc: Global, input: &[u8]) -> Result<Output, Memory>
-    requires { length input.now ≤ MAX_INPUT_BYTES }
-    ensures answer { IfOk result (λ o. o ≡ checked input.now) }
-    ensures status { IfOk result (λ o. (o.status ≡ 0) ⊎ (o.status ≡ 5)) }
+/// A verdict on each line that is not empty: accepted, with the notices on it, or refused. The input
+/// has at most `limit` bytes; the source is read to its end, or past the limit, before anything is
+/// answered. Beside the verdicts no more than a line and a piece of the input is held.
+pub fn check<S: Source>(alloc: Global, limit: u64, source: &mut S) -> Result<Output, ReadStop>
+    requires { limit ≤ MAX_INPUT_BYTES }
+    ensures answer { IfOk result (IsAnswer (within limit checked) (S.left source.old) (S.left source.new)) }
+    ensures failed { IsErrOf result ReadStop.Source → Rose (S.faults source.old) (S.faults source.new) }
+    ensures later { S.faults source.old ≤ S.faults source.new }
 {
-    let mut lines = Lines::new(input);
+    let mut reader = LineReader::new(alloc, limit);
     let mut buffers = Buffers::new(alloc);
     let mut verdicts = Verdicts {
         refused: false,
         text: Vec::new(alloc),
     };
-    while let Some(line) = lines.next() {
-        add_verdict(alloc, &mut verdicts, line, &mut buffers)?;
+    'lines: loop {
+        match reader.next(source)? {
+            Next::Here => add_verdict(alloc, &mut verdicts, reader.line(), &mut buffers)?,
+            Next::End => return Ok(output_of(verdicts)),
+            Next::TooLarge => return Ok(too_large(alloc, limit)?),
+        }
     }
-    Ok(Output {
+}
+
+fn output_of(verdicts: Verdicts) -> Output
+    ensures { result ≡ verdicts_output verdicts }
+{
+    Output {
         status: if verdicts.refused { 5 } else { 0 },
         bytes: Bytes::from_vec(verdicts.text),
-    })
+    }
 }
 
 // The record is let go before the next line is read.

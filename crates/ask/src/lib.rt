@@ -16,7 +16,8 @@ mod line;
 mod output;
 mod parts;
 
-pub use answers::{ask, check};
+pub use answers::ask;
+pub use checked::check;
 pub use commits::CommitFault;
 pub use line::LineFault;
 pub use output::Output;
