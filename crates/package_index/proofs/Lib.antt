@@ -1,0 +1,5 @@
+pub mod Numbering
+pub mod Noting
+pub mod Matching
+pub mod Rising
+pub mod Grouping

@@ -1,0 +1,4 @@
+pub mod Listing
+pub mod Numbers
+pub mod Index
+pub mod Noted

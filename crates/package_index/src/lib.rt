@@ -1,0 +1,12 @@
+//! Which advisories have an entry of a package.
+//!
+//!     let index = PackageIndex::build(alloc, records)?;
+//!     let places = index.listed(&asked);
+#![tactic(auto)]
+
+mod distinct;
+mod growing;
+mod index;
+mod numbers;
+
+pub use index::PackageIndex;
