@@ -1,5 +1,5 @@
 -- The answer to an import.
-use Rattle.std.proofs.Common.{◌≡◌, inl, inr, ℕ, Bool, List, refl, sym, ap, subst, ◌∙◌, arith}
+use Rattle.std.proofs.Common.{◌≡◌, inl, inr, ℕ, Bool, sym, ap, subst, ◌∙◌, arith}
 use Rattle.std.specs.Prelude.{Result, Ok, Err}
 use Rattle.osv_prim.specs.declared.memory.Memory.{Memory}
 use Rattle.osv_record.specs.Advisories.{Advisory}

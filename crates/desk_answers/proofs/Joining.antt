@@ -1,18 +1,17 @@
 -- The answer to the commits of a repository.
-use Rattle.std.proofs.Common.{◌≡◌, ◌≢◌, ◌⊎◌, inl, inr, ℕ, ◌+◌, ◌<◌, ◌≤◌, Bool, true, false, cond, List, [], ◌∷◌, ◌++◌, length, take, drop, Option, Some, None, refl, sym, ap, subst, ◌∙◌, arith, append_assoc}
+use Rattle.std.proofs.Common.{◌≡◌, ◌≢◌, ◌⊎◌, inl, inr, ℕ, ◌+◌, ◌<◌, ◌≤◌, Bool, true, false, cond, List, [], ◌∷◌, ◌++◌, length, take, drop, Option, Some, refl, sym, ap, subst, ◌∙◌, arith}
 use Rattle.std.proofs.Math.Seq.{take-append_seam}
 use Rattle.std.specs.Prelude.{Result, Ok, Err, IfOk, IfSome}
 use mathlib.Core.List.{IsPrefix}
 use Rattle.osv_prim.specs.declared.memory.Memory.{Memory}
 use Rattle.osv_prim.specs.declared.oid.CommitRow.{CommitRow}
 use Rattle.osv_prim.specs.Graphs.{has, with_row, joined}
-use Rattle.commit_graph.specs.declared.fault.GraphFault.{GraphFault}
 use Rattle.commit_graph.specs.Extended.{extended}
 use Rattle.fast_export.specs.declared.fault.StreamFault.{StreamFault}
 use Rattle.history.specs.declared.past.Past.{Past}
 use Rattle.history.specs.declared.past.Past.TheVariants.{Grow}
 use Rattle.history.specs.Conditions.{IsOfVersion}
-use Rattle.history.specs.Entries.{History, own, weight, entry_weight}
+use Rattle.history.specs.Entries.{History, weight, entry_weight}
 use Rattle.history.specs.Prefixes.{grows, graph, graph_at}
 use Rattle.history.proofs.Conditions.{graph_at-now}
 use Rattle.history.proofs.Entries.{front-refl, front-trans}
@@ -26,8 +25,8 @@ use Rattle.reply_json.specs.Bodies.{commits_body}
 use Rattle.session_model.specs.declared.route.Route.TheVariants as routes
 use Rattle.session_model.specs.declared.sign.Sign.{Sign}
 use Rattle.session_model.specs.declared.sign.Sign.TheVariants as signs
-use Rattle.session_model.specs.Alone.{IsAlone, StaysApart, IsUnmoved, AnswersAlone}
-use Rattle.session_model.specs.Answers.{AddsNothing, AddsEntry, GrowsBy, LacksRoom, IsMisfit, HasMoved, CommitsAnswer, StreamAnswers, RepoAnswers, AnswersAt, commits_in}
+use Rattle.session_model.specs.Alone.{IsAlone, IsUnmoved}
+use Rattle.session_model.specs.Answers.{AddsNothing, AddsEntry, GrowsBy, LacksRoom, CommitsAnswer, StreamAnswers, RepoAnswers, AnswersAt, commits_in}
 use Rattle.session_model.specs.Counts.{Rises, Counts, OutsAre}
 use Rattle.session_model.specs.Replies.{done_reply, refusal_reply}
 use Rattle.session_model.specs.Routes.{key_of}
@@ -80,9 +79,6 @@ none-then : (old mid new : Caller) → Still old mid → Still mid new → AddsN
 none-then old mid new p q =
     let n : AddsNothing old.me mid.front new.front = subst (λ (k : ℕ). AddsNothing k mid.front new.front) p.goes.me q.none in
     record { begins = front-trans old.front mid.front new.front p.none.begins n.begins; mine = n.mine ∙ p.none.mine }
-
-pub quiet-unanswered : (old new : Caller) → Still old new → UnansweredAt old new routes.Repo
-quiet-unanswered old new k = record { goes = k.goes; leaves = k.none; apart = k.apart; alone = λ h. same-front old new k h }
 
 still-unanswered : (old mid new : Caller) → Quiet old mid → Still mid new → UnansweredAt old new routes.Repo
 still-unanswered old mid new p q = record {

@@ -13,13 +13,14 @@ use book_desk::Desk;
 use gate::Gate;
 use http_wire::Request;
 use osv_prim::{Ledger, Memory, Steps};
+use osv_record::Buffers;
 use reply_json::Refusal;
 use session_model::{Route, Sign};
 use settings::Settings;
 use std::alloc::Global;
 
-/// Answers a request that was read, by the settings of the desk. `closes` says whether the connection
-/// closes behind the reply. Only memory can fail, and then the request has entered nothing, but that a
+/// Answers a request that was read, by the settings of the desk, in buffers that are kept from one request
+/// to the next. `closes` says whether the connection closes behind the reply. Only memory can fail, and then the request has entered nothing, but that a
 /// publication may be there, whole or in part.
 pub fn answer<D: Desk, G: Gate, L: Ledger>(
     alloc: Global,
@@ -28,13 +29,16 @@ pub fn answer<D: Desk, G: Gate, L: Ledger>(
     request: Request,
     closes: bool,
     settings: &Settings,
+    buffers: &mut Buffers,
     steps: &mut Steps<L>,
 ) -> Result<Answered, Memory>
     requires { (D.caller desk.old).settings ≡ settings.now }
     ensures { Gives (D.caller desk.old) (D.caller desk.new) closes request result }
 {
     let route = route_of(&request);
-    answer_at(alloc, desk, gate, &request, route, closes, settings, steps)
+    answer_at(
+        alloc, desk, gate, request, route, closes, settings, buffers, steps,
+    )
 }
 
 // Answers a request that leads there.
@@ -42,24 +46,25 @@ fn answer_at<D: Desk, G: Gate, L: Ledger>(
     alloc: Global,
     desk: &mut D,
     gate: &G,
-    request: &Request,
+    request: Request,
     route: Route,
     closes: bool,
     settings: &Settings,
+    buffers: &mut Buffers,
     steps: &mut Steps<L>,
 ) -> Result<Answered, Memory>
     requires { (D.caller desk.old).settings ≡ settings.now }
-    ensures { GivesAt (D.caller desk.old) (D.caller desk.new) closes request.now route result }
+    ensures { GivesAt (D.caller desk.old) (D.caller desk.new) closes request route result }
 {
     let _known = desk.point();
     match route {
         Route::NoPath => refused(alloc, Sign::Plain, closes, &Refusal::NoSuchPath),
         Route::WrongMethod(allow) => wrong_method(alloc, closes, allow),
-        Route::Query => query(alloc, desk, request, closes, settings.page, steps),
-        Route::QueryBatch => batch(alloc, desk, request, closes, settings.page, steps),
-        Route::Repo => repo(alloc, desk, request, closes, settings.commits, steps),
-        Route::Vulns => vulns(alloc, desk, request, closes),
-        Route::Import => import(alloc, desk, request, closes),
-        Route::Publish => publish(alloc, desk, gate, request, closes, steps),
+        Route::Query => query(alloc, desk, &request, closes, settings.page, buffers, steps),
+        Route::QueryBatch => batch(alloc, desk, &request, closes, settings.page, buffers, steps),
+        Route::Repo => repo(alloc, desk, &request, closes, settings.commits, steps),
+        Route::Vulns => vulns(alloc, desk, &request, closes),
+        Route::Import => import(alloc, desk, request, closes, buffers),
+        Route::Publish => publish(alloc, desk, gate, &request, closes, steps),
     }
 }

@@ -17,7 +17,8 @@ use book_desk::{Desk, Kept, Newest};
 use desk_calls::find_all;
 use http_wire::Request;
 use osv_prim::{Ledger, Memory, Steps, Stop};
-use query_json::{Query, QueryFault, read_batch};
+use osv_record::Buffers;
+use query_json::{Query, QueryFault, read_batch_in};
 use reply_json::{Answer, Refusal, batch_body};
 use session_model::Sign;
 use snapshot::Snapshot;
@@ -32,6 +33,7 @@ pub(crate) fn batch<D: Desk, L: Ledger>(
     request: &Request,
     closes: bool,
     size: u32,
+    buffers: &mut Buffers,
     steps: &mut Steps<L>,
 ) -> Result<Answered, Memory>
     requires { size ≡ (D.caller desk.old).settings.page }
@@ -41,7 +43,7 @@ pub(crate) fn batch<D: Desk, L: Ledger>(
     let Some(least) = least_of(&request.min) else {
         return refused(alloc, Sign::Plain, closes, &Refusal::BadMinSnapshot);
     };
-    match read_batch(alloc, request.body.as_slice()) {
+    match read_batch_in(alloc, request.body.as_slice(), buffers) {
         Err(fault) => match fault.fault {
             QueryFault::Memory => Err(Memory),
             _ => refused(alloc, Sign::Plain, closes, &Refusal::BadQuery(fault)),

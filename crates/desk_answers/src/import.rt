@@ -12,23 +12,24 @@ use desk_calls::import_of;
 use http_wire::Request;
 use itoa::Buffer;
 use osv_prim::Memory;
-use osv_record::{Record, RecordFault};
+use osv_record::{Buffers, Record, RecordFault};
 use reply_json::Refusal;
 use session_model::Sign;
 use std::alloc::Global;
 use std::sync::Arc;
 
-/// Imports the advisory that a body is.
+/// Imports the advisory that a body is, and keeps the body.
 pub(crate) fn import<D: Desk>(
     alloc: Global,
     desk: &mut D,
-    request: &Request,
+    request: Request,
     closes: bool,
+    buffers: &mut Buffers,
 ) -> Result<Answered, Memory>
-    ensures { GivesAt (D.caller desk.old) (D.caller desk.new) closes request.now routes.Import result }
+    ensures { GivesAt (D.caller desk.old) (D.caller desk.new) closes request routes.Import result }
 {
     let _known = desk.point();
-    match Record::read(alloc, request.body.as_slice()) {
+    match Record::keeping(alloc, request.body, buffers) {
         Err(RecordFault::Memory) => Err(Memory),
         Err(fault) => refused(alloc, Sign::Plain, closes, &Refusal::BadAdvisory(fault)),
         Ok(advisory) => match Arc::new(alloc, advisory) {

@@ -16,8 +16,9 @@ use crate::request::least_of;
 use book_desk::Desk;
 use http_wire::Request;
 use osv_prim::{Ledger, Memory, Steps};
+use osv_record::Buffers;
 use page_token::Token;
-use query_json::{BatchFault, Query, QueryFault, read_query};
+use query_json::{BatchFault, Query, QueryFault, read_query_in};
 use reply_json::{Answer, Refusal, answer_body};
 use session_model::Sign;
 use snapshot::{Page, Snapshot};
@@ -30,6 +31,7 @@ pub(crate) fn query<D: Desk, L: Ledger>(
     request: &Request,
     closes: bool,
     size: u32,
+    buffers: &mut Buffers,
     steps: &mut Steps<L>,
 ) -> Result<Answered, Memory>
     requires { size ≡ (D.caller desk.old).settings.page }
@@ -39,7 +41,7 @@ pub(crate) fn query<D: Desk, L: Ledger>(
     let Some(least) = least_of(&request.min) else {
         return refused(alloc, Sign::Plain, closes, &Refusal::BadMinSnapshot);
     };
-    match read_query(alloc, request.body.as_slice()) {
+    match read_query_in(alloc, request.body.as_slice(), buffers) {
         Err(QueryFault::Memory) => Err(Memory),
         Err(fault) => {
             let refusal = Refusal::BadQuery(BatchFault { index: None, fault });

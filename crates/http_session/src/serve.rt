@@ -12,6 +12,7 @@ use edge_io::Sink;
 use gate::Gate;
 use http_wire::{Reply, Request, write_memory, write_reply};
 use osv_prim::{Ledger, Steps};
+use osv_record::Buffers;
 use session_model::End;
 use settings::Settings;
 use std::alloc::Global;
@@ -27,6 +28,7 @@ pub(crate) fn serve<D: Desk, G: Gate, K: Sink, L: Ledger>(
     settings: &Settings,
     last: bool,
     marks: &mut Marks,
+    buffers: &mut Buffers,
     steps: &mut Steps<L>,
 ) -> Option<End>
     requires { (D.caller desk.old).settings ≡ settings.now }
@@ -41,7 +43,16 @@ pub(crate) fn serve<D: Desk, G: Gate, K: Sink, L: Ledger>(
         return Some(fail(sink));
     };
     let close = request.close;
-    match answer(alloc, desk, gate, request, close || last, settings, steps) {
+    match answer(
+        alloc,
+        desk,
+        gate,
+        request,
+        close || last,
+        settings,
+        buffers,
+        steps,
+    ) {
         Ok(answered) => {
             mark(marks, desk.point(), answered.sign);
             send(sink, &answered.reply, close, last)

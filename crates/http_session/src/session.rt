@@ -11,6 +11,7 @@ use edge_io::{Sink, Source};
 use gate::Gate;
 use http_wire::Held;
 use osv_prim::{Ledger, Steps};
+use osv_record::Buffers;
 use session_model::{End, SessionEnd};
 use settings::Settings;
 use std::alloc::Global;
@@ -77,7 +78,16 @@ fn serve_from<D: Desk, G: Gate, S: Source, K: Sink, L: Ledger>(
     match Held::new(alloc) {
         Ok(mut held) => {
             serve_all(
-                alloc, desk, gate, source, sink, &mut held, settings, marks, steps,
+                alloc,
+                desk,
+                gate,
+                source,
+                sink,
+                &mut held,
+                settings,
+                marks,
+                &mut Buffers::new(alloc),
+                steps,
             )
         }
         Err(_) => fail(sink),
@@ -93,6 +103,7 @@ fn serve_all<D: Desk, G: Gate, S: Source, K: Sink, L: Ledger>(
     held: &mut Held,
     settings: &Settings,
     marks: &mut Marks,
+    buffers: &mut Buffers,
     steps: &mut Steps<L>,
 ) -> End
     requires some { 1 ≤ settings.now.requests }
@@ -118,6 +129,7 @@ fn serve_all<D: Desk, G: Gate, S: Source, K: Sink, L: Ledger>(
             settings,
             left <= 1,
             marks,
+            buffers,
             steps,
         ) {
             Some(end) => return end,

@@ -14,6 +14,7 @@ use edge_io::{Sink, Source};
 use gate::Gate;
 use http_wire::{Got, Held, Room, WireFault, read_request, write_reply};
 use osv_prim::{Ledger, Steps};
+use osv_record::Buffers;
 use session_model::End;
 use settings::Settings;
 use std::alloc::Global;
@@ -29,6 +30,7 @@ pub(crate) fn turn<D: Desk, G: Gate, S: Source, K: Sink, L: Ledger>(
     settings: &Settings,
     last: bool,
     marks: &mut Marks,
+    buffers: &mut Buffers,
     steps: &mut Steps<L>,
 ) -> Option<End>
     requires { (D.caller desk.old).settings ≡ settings.now }
@@ -47,7 +49,7 @@ pub(crate) fn turn<D: Desk, G: Gate, S: Source, K: Sink, L: Ledger>(
     match read_request(alloc, source, sink, held, room) {
         Got::Request(request) => {
             serve(
-                alloc, desk, gate, sink, request, settings, last, marks, steps,
+                alloc, desk, gate, sink, request, settings, last, marks, buffers, steps,
             )
         }
         Got::Refused(fault) => Some(refuse(alloc, sink, fault, settings.body)),

@@ -7,5 +7,5 @@ use Rattle.desk_answers.proofs.import.import.Goals as goal
 
 pub returns-in-Ok-new : goal.returns-in-Ok-new
 returns-in-Ok-new g c =
-    let read : advisory c.args.request.now.body ≡ Ok (arc_value c.in-Ok-new.advisory) = search rules in
-    import-entered (g.D.Desk.caller c.args.desk.now) (g.D.Desk.caller c.enter.new.desk) c.args.closes c.args.request.now (arc_value c.in-Ok-new.advisory) c.enter.result read c.enter.ensures
+    let read : advisory c.args.request.body ≡ Ok (arc_value c.in-Ok-new.advisory) = search rules in
+    import-entered (g.D.Desk.caller c.args.desk.now) (g.D.Desk.caller c.enter.new.desk) c.args.closes c.args.request (arc_value c.in-Ok-new.advisory) c.enter.result read c.enter.ensures

@@ -3,7 +3,6 @@ use Rattle.std.specs.Arc.{arc_value}
 use Rattle.osv_prim.specs.declared.oid.CommitRow.{CommitRow}
 use Rattle.osv_prim.specs.Graphs.{joined}
 use Rattle.commit_graph.specs.Extended.{extended}
-use Rattle.history.specs.Prefixes.{graph}
 use Rattle.desk_calls.specs.Growing as calls
 use Rattle.desk_answers.proofs.Joining.{joined-of_version, grows-on}
 use Rattle.desk_answers.proofs.repo.join.Goals as goal
