@@ -1,0 +1,76 @@
+ghost use Rattle.std.specs.Prelude.{◌≡◌, ◌≤◌, length, map, option_map, IfOk, nat_lt, nat_le, true, false};
+ghost use Rattle.std.specs.Arc.{arc_value};
+ghost use Rattle.std.specs.List.Sorted.{IsNonDecreasing, IsPartitionPoint};
+ghost use Rattle.impact_job.specs.Order.{Ascend};
+ghost use Rattle.id_index.specs.Found.{IsFoundIn};
+ghost use Rattle.id_index.specs.Heads.{IsIndexOf};
+
+use crate::head::head;
+use impact_job::split_at_id;
+use osv_prim::Memory;
+use osv_record::Record;
+use std::alloc::Global;
+use std::marker::Model;
+use std::sync::Arc;
+
+/// The first bytes of the ids of advisories, side by side, so that a look-up goes to few advisories beside the
+/// one that it finds. Contracts see their numbers.
+#[derive(Drop)]
+pub struct IdIndex {
+    heads: Vec<u128>,
+}
+
+impl Model for IdIndex {
+    ghost use Rattle.std.specs.Prelude.{List, ℕ};
+
+    ghost Value = { List ℕ };
+
+    ghost view = { λ i. i.heads.items };
+}
+
+impl IdIndex {
+    /// The index of advisories, with 16 bytes for each. It reads each id once. Only memory can fail.
+    pub fn build(alloc: Global, records: &[Arc<Record>]) -> Result<IdIndex, Memory>
+        ensures { IfOk result (λ index. IsIndexOf index (map (λ a. arc_value a) records.now)) }
+    {
+        let mut heads = Vec::with_capacity(alloc, records.len())?;
+        let mut rest = records;
+        while let [record, later @ ..] = rest {
+            heads.push(head(record.id.as_str().as_bytes()))?;
+            rest = later;
+        }
+        Ok(IdIndex { heads })
+    }
+
+    /// The advisory that has an id, which is given by its bytes, by O(log n) comparisons of numbers, and of ids
+    /// only where they begin with the same sixteen bytes. The advisories are those that the index is of, and
+    /// have to ascend by their ids.
+    pub fn find<'a>(&self, records: &'a [Arc<Record>], id: &[u8]) -> Option<&'a Arc<Record>>
+        requires { IsIndexOf self.now (map (λ a. arc_value a) records.now) }
+        ensures { Ascend (map (λ a. arc_value a) records.now) → IsFoundIn id.now (map (λ a. arc_value a) records.now) (option_map (λ a. arc_value a.now) result) }
+    {
+        let heads = self.heads.as_slice();
+        let wanted = head(id);
+        let start = count_below(heads, wanted);
+        let (_, later_heads) = heads.split_at(start);
+        let (_, later) = records.split_at(start);
+        let (same, _) = later.split_at(count_upto(later_heads, wanted));
+        split_at_id(same, id).found
+    }
+}
+
+// How many heads are below a number. They have to rise.
+fn count_below(heads: &[u128], number: u128) -> usize
+    ensures within { result ≤ length heads.now }
+    ensures point { IsNonDecreasing heads.now → IsPartitionPoint (λ h. nat_lt h number ≡ true) (λ h. nat_lt h number ≡ false) heads.now result }
+{
+    heads.partition_point(|head| *head < number)
+}
+
+// How many heads are below a number or equal to it. They have to rise.
+fn count_upto(heads: &[u128], number: u128) -> usize
+    ensures within { result ≤ length heads.now }
+    ensures point { IsNonDecreasing heads.now → IsPartitionPoint (λ h. nat_le h number ≡ true) (λ h. nat_le h number ≡ false) heads.now result }
+{
+    heads.partition_point(|head| *head <= number)
+}
