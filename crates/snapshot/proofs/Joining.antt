@@ -47,7 +47,7 @@ twice_if p q x false xs ys e i t = t ∙ sym (skipped (q x) refl)
     skipped true f = absurd (let g : p x ≡ true = i f in cc)
     skipped false f = rw f refl
 
-twice : (p q : Advisory → Bool) → ((x : Advisory) → q x ≡ true → p x ≡ true) → (xs : List Advisory) → filter q (filter p xs) ≡ filter q xs
+pub twice : (p q : Advisory → Bool) → ((x : Advisory) → q x ≡ true → p x ≡ true) → (xs : List Advisory) → filter q (filter p xs) ≡ filter q xs
 twice p q i [] = refl
 twice p q i (x ∷ xs) = twice_if p q x (p x) (filter p xs) xs refl (i x) (twice p q i xs)
 

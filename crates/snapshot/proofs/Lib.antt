@@ -2,3 +2,4 @@ pub mod Finding
 pub mod Pages
 pub mod Joining
 pub mod Jobs
+pub mod Listed

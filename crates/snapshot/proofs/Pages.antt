@@ -4,6 +4,8 @@ use Rattle.std.specs.Prelude.{Option, Some, None, IfSome, filter}
 use Rattle.std.specs.Option.{option_to_list}
 use Rattle.std.specs.Ordering.{is_lt}
 use Rattle.std.proofs.Math.Seq.{take-append_seam}
+use Rattle.std.proofs.lemmas.List.{append-nil, map_more}
+use Rattle.std.proofs.lemmas.List.Elements.{filter-append}
 use Rattle.osv_record.specs.Advisories.{Advisory}
 use Rattle.evaluate.proofs.Ascending.{by_id, turned, Below}
 use Rattle.impact_job.specs.Order.{IsSplit}
@@ -70,6 +72,22 @@ module _ (h : Advisory → Bool) where
         let whole : filter h (map see xs) ≡ found ++ see a ∷ rest = at_hit xs i a lt e hit ∙ ap (λ (ys : List Advisory). ys ++ see a ∷ rest) (sym is) in
         let long : length (filter h (map see xs)) ≡ length found + length (see a ∷ rest) = ap (λ (ys : List Advisory). length ys) whole ∙ length-append found (see a ∷ rest) in
         (sym (ap (λ (n : ℕ). take n (filter h (map see xs))) (sym len) ∙ ap (λ (ys : List Advisory). take (length found) ys) whole ∙ take-append_seam found (see a ∷ rest)), omega (arith, long, len))
+
+    last_if : (b : Bool) (x : Advisory) → h x ≡ b → filter h (x ∷ []) ≡ cond b (x ∷ []) []
+    last_if b x e = ap (λ (t : Bool). cond t (x ∷ []) []) e
+
+    -- one more of the list
+    one_more : (xs : List A) (i : ℕ) (a : A) (b : Bool) → i < length xs → a ≡ get_or xs i a → h (see a) ≡ b → filter h (map see (take (i + 1) xs)) ≡ filter h (map see (take i xs)) ++ cond b (see a ∷ []) []
+    one_more xs i a b lt e hit =
+        ap (filter h) (map_more see xs i a lt ∙ ap (λ (y : A). map see (take i xs) ++ see y ∷ []) (sym e))
+        ∙ filter-append h (map see (take i xs)) (see a ∷ [])
+        ∙ ap (λ (ys : List Advisory). filter h (map see (take i xs)) ++ ys) (last_if b (see a) hit)
+
+    pub one_hit : (xs : List A) (i : ℕ) (a : A) → i < length xs → a ≡ get_or xs i a → h (see a) ≡ true → filter h (map see (take (i + 1) xs)) ≡ filter h (map see (take i xs)) ++ see a ∷ []
+    one_hit xs i a lt e hit = one_more xs i a true lt e hit
+
+    pub no_hit : (xs : List A) (i : ℕ) (a : A) → i < length xs → a ≡ get_or xs i a → h (see a) ≡ false → filter h (map see (take (i + 1) xs)) ≡ filter h (map see (take i xs))
+    no_hit xs i a lt e hit = one_more xs i a false lt e hit ∙ append-nil (filter h (map see (take i xs)))
 
 pub all_fit : (found : List Advisory) (size : ℕ) → length found ≤ size → found ≡ take size found
 all_fit [] zero le = refl

@@ -1,4 +1,5 @@
 pub mod Snapshots
 pub mod Pages
+pub mod Subjects
 pub mod Walks
 pub mod Jobs

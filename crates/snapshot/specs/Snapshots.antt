@@ -1,14 +1,19 @@
 -- What a snapshot stands for (our own).
-use Rattle.std.specs.Prelude.{ℕ, List}
+use Rattle.std.specs.Prelude.{◌≡◌, ℕ, List}
 use Rattle.std.specs.Arc.{arc_value}
 use Rattle.history.specs.declared.past.Past.{Past}
 use Rattle.impact_job.specs.Tables as tables
+use Rattle.impact_job.specs.Tables.{seen}
+use Rattle.osv_prim.specs.declared.package.PackageKey.{PackageKey}
+use Rattle.package_index.specs.Index.{found}
+use Rattle.package_index.specs.Listing.{listed}
 use Rattle.snapshot.specs.declared.snapshot.Snapshot.{Snapshot}
 
 -- how many imports it is of
 abbrev pub snapshot_upto : Snapshot → ℕ
 snapshot_upto snapshot = (arc_value snapshot.tables).upto
 
--- the snapshot is that of these imports: its tables are
+-- the snapshot is that of these imports: its tables are, and its index has their advisories under each package
 pub record StandsFor (snapshot : Snapshot) (p : List Past) : Type 0 where
   pub tables : tables.StandsFor (arc_value snapshot.tables) p
+  pub packages : (asked : PackageKey) → found snapshot.packages asked ≡ listed (seen (arc_value snapshot.tables).records.items) asked

@@ -11,6 +11,7 @@ mod assembly;
 mod hit;
 mod job;
 pub mod laws;
+mod packages;
 mod page;
 mod snapshot;
 mod work;

@@ -1,18 +1,23 @@
-ghost use Rattle.std.specs.Prelude.{◌≡◌, ◌+◌, ◌≤◌, List, [], Bool, IfOk, length, map, filter, option_map};
+ghost use Rattle.std.specs.Prelude.{◌≡◌, ℕ, ◌+◌, ◌≤◌, List, [], ◌++◌, Bool, Option, IfOk, length, map, filter, option_map};
 ghost use Rattle.std.specs.Arc.{arc_value};
 ghost use Rattle.history.specs.declared.past.Past.{Past};
 ghost use Rattle.history.specs.Prefixes.{records};
 ghost use Rattle.history.specs.Lookups.{record_of};
+ghost use Rattle.osv_prim.specs.declared.package.PackageKey.{PackageKey as Key};
 ghost use Rattle.osv_record.specs.Advisories.{Advisory};
+ghost use Rattle.package_index.specs.Listing.{listed};
 ghost use Rattle.impact_job.specs.Tables as tables;
 ghost use Rattle.impact_job.specs.Order.{Ascend};
 ghost use Rattle.snapshot.specs.Snapshots.{StandsFor, snapshot_upto};
-ghost use Rattle.snapshot.specs.Pages.{is_above, page, page_seen};
+ghost use Rattle.snapshot.specs.Pages.{is_above, cut, page, page_seen};
+ghost use Rattle.snapshot.specs.Subjects.{is_package_hit};
 
+use crate::packages::{as_text, first_package_hits, from_index, index_of};
 use crate::page::{Page, first_hits};
 use impact_job::{Tables, split_at_id};
-use osv_prim::{Id, Ledger, Memory, Steps, Subject};
+use osv_prim::{Id, Ledger, Memory, PackageKey, Steps, Subject};
 use osv_record::Record;
+use package_index::PackageIndex;
 use std::alloc::Global;
 use std::sync::Arc;
 
@@ -20,6 +25,8 @@ use std::sync::Arc;
 #[derive(Drop)]
 pub struct Snapshot {
     pub(crate) tables: Arc<Tables>,
+    // The advisories of each package, by their indexes in the tables.
+    pub(crate) packages: PackageIndex,
 }
 
 impl Snapshot {
@@ -32,9 +39,7 @@ impl Snapshot {
             records: Vec::new(alloc),
             repos: Vec::new(alloc),
         };
-        Ok(Snapshot {
-            tables: Arc::new(alloc, tables)?,
-        })
+        of_tables(alloc, Arc::new(alloc, tables)?)
     }
 
     /// How many imports it is of.
@@ -59,9 +64,54 @@ impl Snapshot {
     }
 
     /// A page of hits: the first `size` of those whose ids are above `after`, or of all, ascending by id,
-    /// and whether there are more. It reads each advisory once at most, and none behind the first hit that
+    /// and whether there are more. For a package it reads each advisory that is listed under it, with an id
+    /// above `after`, once at most, and for a commit each advisory; it reads none behind the first hit that
     /// the page doesn't have. Only memory can fail.
     pub fn answer<L: Ledger>(
+        &self,
+        alloc: Global,
+        subject: &Subject,
+        after: Option<&Id>,
+        size: u32,
+        steps: &mut Steps<L>,
+    ) -> Result<Page, Memory>
+        ensures page { (p : List Past) → StandsFor self.now p → IfOk result (λ found. page_seen found ≡ page p subject.now (option_map (λ id. id.now) after.entry) size) }
+        ensures records { (p : List Past) → StandsFor self.now p → steps.new.record_count ≤ steps.old.record_count + length (records p) }
+        ensures listed { (p : List Past) (asked : Key) (version : Option (List ℕ)) → StandsFor self.now p → subject.now ≡ Subject.Package asked version
+            → steps.new.record_count ≤ steps.old.record_count + length (listed (records p) asked) }
+    {
+        match subject {
+            Subject::Package(asked, version) => {
+                self.by_package(alloc, asked, as_text(version), after, size, steps)
+            }
+            Subject::Commit(_) => self.by_commit(alloc, subject, after, size, steps),
+            Subject::CommitIn(_, _) => self.by_commit(alloc, subject, after, size, steps),
+        }
+    }
+
+    // The same for a package, in this version where there is one.
+    fn by_package<L: Ledger>(
+        &self,
+        alloc: Global,
+        asked: &PackageKey,
+        version: Option<&str>,
+        after: Option<&Id>,
+        size: u32,
+        steps: &mut Steps<L>,
+    ) -> Result<Page, Memory>
+        ensures page { (p : List Past) → StandsFor self.now p → IfOk result (λ found. page_seen found ≡ cut size (filter (is_above (option_map (λ id. id.now) after.entry)) (filter (is_package_hit asked.now (option_map (λ t. t.now) version.entry)) (records p)))) }
+        ensures listed { (p : List Past) → StandsFor self.now p → steps.new.record_count ≤ steps.old.record_count + length (listed (records p) asked.now) }
+    {
+        let records = self.tables.records.as_slice();
+        // Those above are the end of all.
+        let start = records
+            .len()
+            .saturating_sub(all_above(records, after).len());
+        let indexes = from_index(self.packages.listed(asked), start);
+        first_package_hits(alloc, records, indexes, asked, version, size, steps)
+    }
+
+    fn by_commit<L: Ledger>(
         &self,
         alloc: Global,
         subject: &Subject,
@@ -85,8 +135,21 @@ impl Snapshot {
     }
 }
 
+/// The snapshot that keeps these tables. Only memory can fail.
+pub(crate) fn of_tables(alloc: Global, kept: Arc<Tables>) -> Result<Snapshot, Memory>
+    ensures stands { (p : List Past) → tables.StandsFor (arc_value kept) p → IfOk result (λ s. StandsFor s p) }
+    ensures upto { IfOk result (λ s. snapshot_upto s ≡ (arc_value kept).upto) }
+{
+    let packages = index_of(alloc, kept.records.as_slice())?;
+    Ok(Snapshot {
+        tables: kept,
+        packages,
+    })
+}
+
 // Those above an id, or all.
 fn all_above<'a>(records: &'a [Arc<Record>], after: Option<&Id>) -> &'a [Arc<Record>]
+    ensures last { Ascend (map (λ a. arc_value a) records.now) → (front : List Advisory) × (map (λ a. arc_value a) records.now ≡ front ++ map (λ a. arc_value a) result.now) }
     ensures count { Ascend (map (λ a. arc_value a) records.now) → length result.now ≤ length records.now }
     ensures hits { Ascend (map (λ a. arc_value a) records.now)
         → (h : Advisory → Bool) → filter h (map (λ a. arc_value a) result.now) ≡ filter (is_above (option_map (λ id. id.now) after.entry)) (filter h (map (λ a. arc_value a) records.now)) }

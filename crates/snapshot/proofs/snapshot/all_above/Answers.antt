@@ -1,4 +1,5 @@
-use Rattle.std.proofs.Common.{◌≡◌, ℕ, List, Bor, arith, map, sym, ap, subst, ◌∙◌}
+use Rattle.std.proofs.Common.{◌≡◌, ℕ, List, ◌++◌, Bor, arith, map, sym, ap, subst, ◌∙◌, append_assoc}
+use Rattle.std.specs.Option.{option_to_list}
 use Rattle.std.specs.Prelude.{Option, option_map, filter}
 use Rattle.std.specs.Arc.{arc_value}
 use Rattle.std.proofs.lemmas.List.{length-map}
@@ -31,3 +32,10 @@ returns-in-Some-clause-count c = λ up.
     let found : Option Advisory = option_map (λ a. arc_value a.now) c.split_at_id.result.found in
     let above : List Advisory = map (λ a. arc_value a) c.split_at_id.result.above.now in
     omega (arith, fewer c.as_bytes.result.now xs below found above (c.split_at_id.ensures up), length-map c.split_at_id.result.above.now (λ a. arc_value a), length-map c.args.records.now (λ a. arc_value a))
+
+pub returns-in-Some-clause-last : goal.returns-in-Some-clause-last
+returns-in-Some-clause-last c = λ up.
+    let below : List Advisory = map (λ a. arc_value a) c.split_at_id.result.below.now in
+    let found : Option Advisory = option_map (λ a. arc_value a.now) c.split_at_id.result.found in
+    let above : List Advisory = map (λ a. arc_value a) c.split_at_id.result.above.now in
+    (below ++ option_to_list found, (c.split_at_id.ensures up).whole ∙ sym (append_assoc below (option_to_list found) above))

@@ -1,34 +1,37 @@
-use Rattle.std.proofs.Common.{◌≡◌, ℕ, List, arith, length, map, sym, ap, subst, ◌∙◌}
-use Rattle.std.specs.Prelude.{Option, option_map, filter}
-use Rattle.std.specs.Arc.{arc_value}
-use Rattle.std.proofs.lemmas.List.{length-map}
-use Rattle.std.proofs.lemmas.Result.{IfOk-weaker}
-use Rattle.osv_record.specs.Advisories.{Advisory}
-use Rattle.evaluate.specs.Hits.{Repo, is_hit}
-use Rattle.history.specs.Prefixes.{records, graphs}
-use Rattle.impact_job.specs.Order.{Ascend}
-use Rattle.impact_job.specs.Tables.{repos_seen}
-use Rattle.impact_job.specs.declared.tables.Tables.{Tables}
-use Rattle.impact_job.proofs.Prefixes.{kept-ascend}
-use Rattle.snapshot.specs.Pages.{is_above, cut, hits_above}
+use Rattle.std.proofs.Common.{◌≡◌, ℕ, List, length, sym, ap, subst, ◌∙◌, arith}
+use Rattle.std.specs.Prelude.{IfOk, Option, option_map, filter}
+use Rattle.osv_prim.specs.declared.package.PackageKey.{PackageKey}
+use Rattle.osv_prim.specs.declared.subject.Subject.{Subject}
+use Rattle.osv_prim.specs.declared.subject.Subject.TheVariants.{Package, Commit, CommitIn}
+use Rattle.history.specs.Prefixes.{records}
+use Rattle.package_index.specs.Listing.{listed}
+use Rattle.snapshot.specs.Pages.{is_above, cut, page, page_seen}
+use Rattle.snapshot.specs.Subjects.{is_package_hit}
+use Rattle.snapshot.proofs.Listed.{listed-fewer}
 use Rattle.snapshot.proofs.snapshot.Snapshot.answer.Goals as goal
 
-pub returns-clause-page : goal.returns-clause-page
-returns-clause-page g c = λ p s.
-    let subject = c.args.subject.now in
+pub returns-in-Package-clause-page : goal.returns-in-Package-clause-page
+returns-in-Package-clause-page g c = λ p s.
     let after : Option (List ℕ) = option_map (λ id. id.now) c.args.after in
-    let kept : map (λ a. arc_value a) c.as_slice-records.result.now ≡ records p = ap (map (λ a. arc_value a)) (c.as_slice-records.ensures.value ∙ ap (λ (t : Tables). t.records.items) c.deref.ensures) ∙ s.tables.kept in
-    let grown : repos_seen c.as_slice-repos.result.now ≡ graphs p = ap repos_seen (c.as_slice-repos.ensures.value ∙ ap (λ (t : Tables). t.repos.items) c.deref-2.ensures) ∙ s.tables.grown in
-    let up : Ascend (map (λ a. arc_value a) c.as_slice-records.result.now) = subst (λ (ys : List Advisory). Ascend ys) (sym kept) (kept-ascend p) in
-    let all : filter (is_hit (repos_seen c.as_slice-repos.result.now) subject) (map (λ a. arc_value a) c.all_above.result.now) ≡ hits_above p subject after =
-    c.all_above.ensures.hits up (is_hit (repos_seen c.as_slice-repos.result.now) subject)
-    ∙ ap (λ (ys : List Advisory). filter (is_above after) (filter (is_hit (repos_seen c.as_slice-repos.result.now) subject) ys)) kept
-    ∙ ap (λ (repos : List Repo). filter (is_above after) (filter (is_hit repos subject) (records p))) grown
-    in
-    IfOk-weaker c.first_hits.result _ _ (λ f e. e ∙ ap (λ (ys : List Advisory). cut c.args.size ys) all) c.first_hits.ensures.page
+    subst (λ (x : Subject). IfOk c.by_package.result (λ found. page_seen found ≡ page p x after c.args.size)) (sym c.in-Package.is)
+    (subst (λ (v : Option (List ℕ)). IfOk c.by_package.result (λ found. page_seen found ≡ cut c.args.size (filter (is_above after) (filter (is_package_hit c.in-Package.asked v) (records p))))) c.as_text.ensures (c.by_package.ensures.page p s))
 
-pub returns-clause-records : goal.returns-clause-records
-returns-clause-records g c = λ p s.
-    let kept : map (λ a. arc_value a) c.as_slice-records.result.now ≡ records p = ap (map (λ a. arc_value a)) (c.as_slice-records.ensures.value ∙ ap (λ (t : Tables). t.records.items) c.deref.ensures) ∙ s.tables.kept in
-    let up : Ascend (map (λ a. arc_value a) c.as_slice-records.result.now) = subst (λ (ys : List Advisory). Ascend ys) (sym kept) (kept-ascend p) in
-    omega (arith, c.first_hits.ensures.records, c.all_above.ensures.count up, length-map c.as_slice-records.result.now (λ a. arc_value a), ap (λ (ys : List Advisory). length ys) kept)
+pub returns-in-Package-clause-records : goal.returns-in-Package-clause-records
+returns-in-Package-clause-records g c = λ p s. omega (arith, c.by_package.ensures.listed p s, listed-fewer c.in-Package.asked 0 (records p))
+
+-- the key that is asked for
+abbrev key : Subject → PackageKey → PackageKey
+key (Package asked version) other = asked
+key (Commit commit) other = other
+key (CommitIn commit asked) other = other
+
+pub returns-in-Package-clause-listed : goal.returns-in-Package-clause-listed
+returns-in-Package-clause-listed g c = λ p asked version s is.
+    let same : c.in-Package.asked ≡ asked = ap (λ (x : Subject). key x asked) (sym c.in-Package.is ∙ is) in
+    omega (arith, c.by_package.ensures.listed p s, ap (λ (k : PackageKey). length (listed (records p) k)) same)
+
+pub returns-in-Commit-clause-listed : goal.returns-in-Commit-clause-listed
+returns-in-Commit-clause-listed g c = λ p asked version s is. absurd (let other = sym c.in-Commit.is ∙ is in cc)
+
+pub returns-in-CommitIn-clause-listed : goal.returns-in-CommitIn-clause-listed
+returns-in-CommitIn-clause-listed g c = λ p asked version s is. absurd (let other = sym c.in-CommitIn.is ∙ is in cc)
