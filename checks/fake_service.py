@@ -17,14 +17,15 @@ class Fake:
     drops: connections are closed in place of the replies to these. cuts: replies to these end in the middle.
     dies, restarts: at this request it closes all and listens no more, or begins anew without a history.
     building: so many publications are told to be under way. hurries: behind each batch it imports and publishes.
-    garbage: it is no service at all.
+    garbage: it is no service at all. patience: a connection is closed where nothing came for so many seconds.
     """
 
     def __init__(self, most=1_000, replies=None, drops=(), cuts=(), dies=None, restarts=None, building=0, hurries=False,
-                 garbage=False, **settings):
+                 garbage=False, patience=None, **settings):
         self.settings, self.most, self.replies, self.drops, self.cuts = settings, most, replies or {}, drops, cuts
         self.dies, self.restarts, self.building, self.hurries, self.garbage = dies, restarts, building, hurries, garbage
         self.service, self.lock, self.count, self.seen, self.open = service_model.Service(**settings), threading.Lock(), 0, [], set()
+        self.patience, self.connections = patience, 0
         self.listener = socket.create_server(("127.0.0.1", 0))
         self.url = f"http://127.0.0.1:{self.listener.getsockname()[1]}"
         threading.Thread(target=self.listen, daemon=True).start()
@@ -54,6 +55,8 @@ class Fake:
                 connection, _ = self.listener.accept()
             except OSError:
                 return
+            self.connections += 1
+            connection.settimeout(self.patience)
             self.open.add(connection)
             threading.Thread(target=self.serve, args=[connection], daemon=True).start()
 
