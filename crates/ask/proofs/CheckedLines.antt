@@ -1,6 +1,6 @@
 -- Verdicts on the lines of a source as they come.
-use Rattle.std.proofs.Common.{◌≡◌, ◌⊎◌, ℕ, Bool, true, false, ◌||◌, List, [], ◌++◌, Option, Some, None, Ok, refl, sym, ap, subst, ◌∙◌, arith, inl, inr, append_assoc}
-use Rattle.std.specs.Prelude.{IfSome, if◌then◌else◌}
+use Rattle.std.proofs.Common.{◌≡◌, ◌⊎◌, ℕ, Bool, true, false, ◌||◌, List, [], ◌++◌, Option, Some, Ok, refl, sym, ap, subst, ◌∙◌, arith, inl, inr, append_assoc}
+use Rattle.std.specs.Prelude.{if◌then◌else◌}
 use Rattle.std.specs.Io.KnownBytes.{IsAtEnd}
 use Rattle.std.specs.List.{flat_map, list_any}
 use Rattle.std.proofs.lemmas.List.{append-nil}
@@ -12,7 +12,7 @@ use Rattle.ask.specs.Checked.{AddsVerdict, checked, line_refused, line_verdict, 
 use Rattle.ask.specs.Outputs.{IsAnswer, within}
 use Rattle.ask.specs.declared.checked.Verdicts.{Verdicts}
 use Rattle.ask.specs.declared.output.Output.{Output}
-use Rattle.ask.proofs.Answering.{at_most}
+use Rattle.ask.proofs.Answering.{at_most, where_known}
 
 -- the verdicts on the lines so far, and those on the lines that are left, are those on all
 pub record HasChecked (input : List ℕ) (r : LineReader) (left : Option (List ℕ)) (v : Verdicts) : Type 0 where
@@ -56,11 +56,6 @@ all_checked input r left v h none =
     let text : v.text.items ≡ flat_map line_verdict (numbered 1 input) = sym (append-nil v.text.items) ∙ ap (λ (ls : List (ℕ × List ℕ)). v.text.items ++ flat_map line_verdict ls) (sym none) ∙ h.text in
     let refused : v.refused ≡ list_any line_refused (numbered 1 input) = sym (or_none v.refused) ∙ ap (λ (ls : List (ℕ × List ℕ)). v.refused || list_any line_refused ls) (sym none) ∙ h.refused in
     ap (λ (b : Bool). record { status = if b then 5 else 0; bytes = v.text.items }) refused ∙ ap (λ (t : List ℕ). record { status = if list_any line_refused (numbered 1 input) then 5 else 0; bytes = t }) text
-
--- where the source tells what it has
-pub where_known : {P : List ℕ → Type 0} (first : Option (List ℕ)) → ((xs : List ℕ) → first ≡ Some xs → P xs) → IfSome first P
-where_known None h = tt
-where_known (Some xs) h = h xs refl
 
 either : (b : Bool) (n : ℕ) → n ≡ (if b then 5 else 0) → (n ≡ 0) ⊎ (n ≡ 5)
 either true n e = inr e

@@ -1,28 +1,38 @@
 -- Reading line after line up to the one that names a repository.
-use Rattle.std.proofs.Common.{◌≡◌, ℕ, List, [], ◌∷◌, ◌++◌, Option, Some, None, option_map, Ok, refl, sym, ap, subst, ◌∙◌}
+use Rattle.std.proofs.Common.{◌≡◌, ◌≤◌, ℕ, List, [], ◌∷◌, ◌++◌, length, Option, Some, None, Ok, refl, sym, ap, subst, ◌∙◌}
 use Rattle.std.specs.Option.{option_map_or}
+use Rattle.osv_prim.specs.Repos.{normal_repo}
 use Rattle.osv_prim.specs.Results.{each, onto, Fails}
 use Rattle.osv_prim.specs.declared.stop.Stop.{Stop}
+use Rattle.osv_prim.specs.declared.stop.Stop.TheVariants as stop
 use Rattle.osv_prim.proofs.Each.{reads_on, stops, ends, onto-none}
 use Rattle.osv_record.specs.Advisories.{Advisory}
+use Rattle.evaluate.specs.Kept.{KeepsEntries}
+use Rattle.evaluate.specs.declared.git_imports.GitImports.{GitImports}
 use Rattle.line_input.specs.Lines.{behind}
+use Rattle.line_input.specs.Reader.{GivesLine, current, lines_behind}
+use Rattle.line_input.specs.declared.reader.LineReader.{LineReader}
+use Rattle.line_input.specs.declared.reader.Next.TheVariants.{Here, End}
 use Rattle.ask.specs.Line.{read_line}
-use Rattle.ask.specs.Parts.{Parts, ReadsParts, divided, repo_pair, url_of, with_advisory}
+use Rattle.ask.specs.Parts.{Parts, divided, url_of, with_advisory}
+use Rattle.ask.specs.Stops.{KeepsLine, ReadsParts, Stops, line_stop}
 use Rattle.ask.specs.declared.line.LineFault.{LineFault}
-use Rattle.ask.specs.declared.parts.ReadParts.{ReadParts}
 
 module _ (input : List ℕ) where
   -- some lines were read as advisories, and none of them names a repository
-  pub record HasDivided (all left : List (ℕ × List ℕ)) (imports : List Advisory) : Type 0 where
+  pub record HasDivided (all left : List (ℕ × List ℕ)) (held : GitImports) : Type 0 where
+    pub imports : List Advisory
     pub so_far : onto imports (each read_line (divided input left).advisories) ≡ each read_line (divided input all).advisories
     pub repo : (divided input left).repo ≡ (divided input all).repo
+    pub kept : KeepsEntries imports held
 
-  pub divided_none : (all left : List (ℕ × List ℕ)) (imports : List Advisory) → left ≡ all → imports ≡ [] → HasDivided all left imports
-  divided_none all left [] same e = record {
+  pub divided_none : (all left : List (ℕ × List ℕ)) (kept : GitImports) → left ≡ all → KeepsEntries [] kept → HasDivided all left kept
+  divided_none all left kept same e = record {
+    imports = [];
     so_far = onto-none (each read_line (divided input left).advisories) ∙ ap (λ (ls : List (ℕ × List ℕ)). each read_line (divided input ls).advisories) same;
     repo = ap (λ (ls : List (ℕ × List ℕ)). (divided input ls).repo) same;
+    kept = e;
   }
-  divided_none all left (r ∷ rs) same e = absurd cc
 
   division : (line : ℕ × List ℕ) (left : List (ℕ × List ℕ)) → Option (List ℕ) → Parts
   division line left url = option_map_or (λ url. record { advisories = []; repo = Some (url, behind line.0 input) }) url (with_advisory line (divided input left))
@@ -32,42 +42,66 @@ module _ (input : List ℕ) where
   next line left url e = ap (division line left) e
 
   -- the next line is an advisory
-  goes_on : (all left : List (ℕ × List ℕ)) (line : ℕ × List ℕ) (imports : List Advisory) → url_of line.1 ≡ None → HasDivided all (line ∷ left) imports
-      → onto imports (each read_line (line ∷ (divided input left).advisories)) ≡ each read_line (divided input all).advisories
+  goes_on : (all left : List (ℕ × List ℕ)) (line : ℕ × List ℕ) (kept : GitImports) → url_of line.1 ≡ None → (h : HasDivided all (line ∷ left) kept)
+      → onto h.imports (each read_line (line ∷ (divided input left).advisories)) ≡ each read_line (divided input all).advisories
   unfolding division
-  goes_on all left line imports e h = sym (ap (λ (p : Parts). onto imports (each read_line p.advisories)) (next line left None e)) ∙ h.so_far
+  goes_on all left line kept e h = sym (ap (λ (p : Parts). onto h.imports (each read_line p.advisories)) (next line left None e)) ∙ h.so_far
 
-  pub divided_more : (all left : List (ℕ × List ℕ)) (line : ℕ × List ℕ) (imports new : List Advisory) (r : Advisory) → url_of line.1 ≡ None → read_line line ≡ Ok r
-      → new ≡ imports ++ r ∷ [] → HasDivided all (line ∷ left) imports → HasDivided all left new
+  divided_more : (all left : List (ℕ × List ℕ)) (line : ℕ × List ℕ) (old new : GitImports) → url_of line.1 ≡ None → KeepsLine line old new → HasDivided all (line ∷ left) old → HasDivided all left new
   unfolding division
-  divided_more all left line imports new r e read pushed h =
-      subst (λ (rs : List Advisory). HasDivided all left rs) (sym pushed) (record {
-        so_far = reads_on read_line imports line (divided input left).advisories r (each read_line (divided input all).advisories) read (goes_on all left line imports e h);
-        repo = sym (ap (λ (p : Parts). p.repo) (next line left None e)) ∙ h.repo;
-      })
+  divided_more all left line old new e k h = record {
+    imports = h.imports ++ k.0 ∷ [];
+    so_far = reads_on read_line h.imports line (divided input left).advisories k.0 (each read_line (divided input all).advisories) k.1 (goes_on all left line old e h);
+    repo = sym (ap (λ (p : Parts). p.repo) (next line left None e)) ∙ h.repo;
+    kept = k.2 h.imports h.kept;
+  }
 
-  pub divided_stops : (all left : List (ℕ × List ℕ)) (line : ℕ × List ℕ) (imports : List Advisory) (d : Stop LineFault) → url_of line.1 ≡ None → Fails d (read_line line)
-      → HasDivided all (line ∷ left) imports → Fails d (each read_line (divided input all).advisories)
-  divided_stops all left line imports d e f h =
-      stops read_line imports line (divided input left).advisories d (each read_line (divided input all).advisories) f (goes_on all left line imports e h)
+  -- ---- lines as they come
+
+  here : (all : List (ℕ × List ℕ)) (old new : LineReader) (ln : Option (List ℕ)) (kept : GitImports) → GivesLine input old new ln (Ok Here) → HasDivided all (lines_behind old.passed input) kept
+      → HasDivided all (current new ∷ lines_behind new.passed input) kept
+  here all old new ln kept g h = subst (λ (ls : List (ℕ × List ℕ)). HasDivided all ls kept) (g.here refl) h
+
+  pub divided_line : (all : List (ℕ × List ℕ)) (old new : LineReader) (ln : Option (List ℕ)) (kept after : GitImports) → GivesLine input old new ln (Ok Here) → url_of (current new).1 ≡ None
+      → HasDivided all (lines_behind old.passed input) kept → KeepsLine (current new) kept after → HasDivided all (lines_behind new.passed input) after
+  divided_line all old new ln kept after g e h k = divided_more all (lines_behind new.passed input) (current new) kept after e k (here all old new ln kept g h)
+
+  pub divided_stops : (all : List (ℕ × List ℕ)) (old new : LineReader) (ln : Option (List ℕ)) (kept : GitImports) (d : Stop LineFault) → GivesLine input old new ln (Ok Here)
+      → url_of (current new).1 ≡ None → HasDivided all (lines_behind old.passed input) kept → Fails d (read_line (current new)) → Stops input (divided input all) (line_stop d) new ln
+  divided_stops all old new ln kept stop.Memory g e h f = tt
+  divided_stops all old new ln kept (stop.Refused x) g e h f =
+      let at = here all old new ln kept g h in
+      let left = lines_behind new.passed input in
+      (stops read_line at.imports (current new) (divided input left).advisories (stop.Refused x) (each read_line (divided input all).advisories) f (goes_on all left (current new) kept e at), g.stands)
+
+  all_divided : (all left : List (ℕ × List ℕ)) (kept : GitImports) (r : LineReader) (ln : Option (List ℕ)) → left ≡ [] → HasDivided all left kept → length input ≤ r.limit
+      → ReadsParts input (divided input all) (record { kept = kept; repo = None }) r ln
+  all_divided all [] kept r ln none h within = record {
+    imports = h.imports;
+    advisories = ends read_line h.imports [] (each read_line (divided input all).advisories) refl h.so_far;
+    kept = h.kept;
+    repo = (sym h.repo, within);
+  }
+  all_divided all (line ∷ left) kept r ln none h within = absurd cc
 
   -- no line is left
-  pub divided_all : (all left : List (ℕ × List ℕ)) (read : ReadParts) → left ≡ [] → HasDivided all left read.advisories.items → option_map repo_pair read.repo ≡ None
-      → ReadsParts (divided input all) read
-  divided_all all [] read none h e = record {
-    advisories = ends read_line read.advisories.items [] (each read_line (divided input all).advisories) refl h.so_far;
-    repo = sym h.repo ∙ sym e;
-  }
-  divided_all all (line ∷ left) read none h e = absurd cc
+  pub divided_to_end : (all : List (ℕ × List ℕ)) (old new : LineReader) (ln : Option (List ℕ)) (kept : GitImports) → GivesLine input old new ln (Ok End) → new.limit ≡ old.limit
+      → HasDivided all (lines_behind old.passed input) kept → ReadsParts input (divided input all) (record { kept = kept; repo = None }) new ln
+  divided_to_end all old new ln kept g l h =
+      let e = g.end refl in all_divided all (lines_behind old.passed input) kept new ln e.0 h (subst (λ (n : ℕ). length input ≤ n) (sym l) e.1)
 
   -- the next line names a repository
-  pub divided_at_repo : (all left : List (ℕ × List ℕ)) (line : ℕ × List ℕ) (url : List ℕ) (read : ReadParts) → url_of line.1 ≡ Some url → HasDivided all (line ∷ left) read.advisories.items
-      → option_map repo_pair read.repo ≡ Some (url, behind line.0 input) → ReadsParts (divided input all) read
+  pub divided_at_repo : (all : List (ℕ × List ℕ)) (old new : LineReader) (ln : Option (List ℕ)) (kept : GitImports) (url key : List ℕ) → GivesLine input old new ln (Ok Here)
+      → url_of (current new).1 ≡ Some url → key ≡ normal_repo url → HasDivided all (lines_behind old.passed input) kept → ReadsParts input (divided input all) (record { kept = kept; repo = Some key }) new ln
   unfolding division
-  divided_at_repo all left line url read is h e =
-      let at : divided input (line ∷ left) ≡ division line left (Some url) = next line left (Some url) is in
+  divided_at_repo all old new ln kept url key g is k h =
+      let left = lines_behind new.passed input in
+      let before = here all old new ln kept g h in
+      let at : divided input (current new ∷ left) ≡ division (current new) left (Some url) = next (current new) left (Some url) is in
       record {
-        advisories = ends read_line read.advisories.items [] (each read_line (divided input all).advisories) refl
-            (sym (ap (λ (p : Parts). onto read.advisories.items (each read_line p.advisories)) at) ∙ h.so_far);
-        repo = sym h.repo ∙ ap (λ (p : Parts). p.repo) at ∙ sym e;
+        imports = before.imports;
+        advisories = ends read_line before.imports [] (each read_line (divided input all).advisories) refl
+            (sym (ap (λ (p : Parts). onto before.imports (each read_line p.advisories)) at) ∙ before.so_far);
+        kept = before.kept;
+        repo = (url, behind new.passed input, sym before.repo ∙ ap (λ (p : Parts). p.repo) at, k, g.stands);
       }

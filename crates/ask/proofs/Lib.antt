@@ -1,4 +1,5 @@
 pub mod Reading
 pub mod Dividing
+pub mod Streaming
 pub mod Answering
 pub mod CheckedLines

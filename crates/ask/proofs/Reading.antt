@@ -1,14 +1,22 @@
 -- Reading line after line.
-use Rattle.std.proofs.Common.{◌≡◌, ℕ, List, [], ◌∷◌, ◌++◌, ap, ◌∙◌}
+use Rattle.std.proofs.Common.{◌≡◌, ◌≤◌, ℕ, List, [], ◌∷◌, ◌++◌, length, Option, Result, Ok, refl, sym, ap, subst, ◌∙◌}
 use Rattle.osv_prim.specs.Results.{each, onto, Fails}
 use Rattle.osv_prim.specs.declared.stop.Stop.{Stop}
+use Rattle.osv_prim.specs.declared.stop.Stop.TheVariants as stop
 use Rattle.osv_prim.specs.declared.subject.Subject.{Subject}
 use Rattle.osv_prim.proofs.Each.{reads_on, stops, ends, onto-none}
 use Rattle.osv_record.specs.Advisories.{Advisory}
+use Rattle.evaluate.specs.Hits.{Repo, hit_ids}
 use Rattle.evaluate.specs.Kept.{HoldsHits}
 use Rattle.evaluate.specs.declared.hit_ids.HitIds.{HitIds}
-use Rattle.ask.specs.Asked.{FindsHits, TakesLine}
+use Rattle.line_input.specs.Reader.{GivesLine, current, lines_behind}
+use Rattle.line_input.specs.declared.reader.LineReader.{LineReader}
+use Rattle.line_input.specs.declared.reader.Next.TheVariants.{Here, End}
+use Rattle.ask.specs.Asked.{FindsHits, TakesLine, answer, ids_output}
+use Rattle.ask.specs.Commits.{repos_of}
 use Rattle.ask.specs.Line.{read_line}
+use Rattle.ask.specs.Parts.{advisories_alone}
+use Rattle.ask.specs.Stops.{Finds, Stops, line_stop}
 use Rattle.ask.specs.declared.line.LineFault.{LineFault}
 
 module _ (subject : Subject) where
@@ -34,3 +42,33 @@ module _ (subject : Subject) where
 
   pub has_read_all : (all left : List (ℕ × List ℕ)) (found : HitIds) → HasRead all left found → left ≡ [] → FindsHits subject (each read_line all) found
   has_read_all all left found h none = (h.imports, ends read_line h.imports left (each read_line all) none h.so_far, h.hits)
+
+  -- ---- lines as they come
+
+  -- the next line was given
+  here : (input : List ℕ) (all : List (ℕ × List ℕ)) (old new : LineReader) (ln : Option (List ℕ)) (found : HitIds) → GivesLine input old new ln (Ok Here) → HasRead all (lines_behind old.passed input) found
+      → HasRead all (current new ∷ lines_behind new.passed input) found
+  here input all old new ln found g h = subst (λ (ls : List (ℕ × List ℕ)). HasRead all ls found) (g.here refl) h
+
+  pub has_read_line : (input : List ℕ) (all : List (ℕ × List ℕ)) (old new : LineReader) (ln : Option (List ℕ)) (found after : HitIds) → GivesLine input old new ln (Ok Here)
+      → HasRead all (lines_behind old.passed input) found → TakesLine subject (current new) found after → HasRead all (lines_behind new.passed input) after
+  has_read_line input all old new ln found after g h t = has_read_more all (lines_behind new.passed input) (current new) found after (here input all old new ln found g h) t
+
+  pub stops_at_line : (input : List ℕ) (all : List (ℕ × List ℕ)) (old new : LineReader) (ln : Option (List ℕ)) (found : HitIds) (d : Stop LineFault) → GivesLine input old new ln (Ok Here)
+      → HasRead all (lines_behind old.passed input) found → Fails d (read_line (current new)) → Stops input (advisories_alone all) (line_stop d) new ln
+  stops_at_line input all old new ln found stop.Memory g h f = tt
+  stops_at_line input all old new ln found (stop.Refused e) g h f =
+      (has_stopped all (lines_behind new.passed input) (current new) found (stop.Refused e) (here input all old new ln found g h) f, g.stands)
+
+  pub has_read_to_end : (input : List ℕ) (all : List (ℕ × List ℕ)) (old new : LineReader) (ln : Option (List ℕ)) (found : HitIds) → GivesLine input old new ln (Ok End)
+      → HasRead all (lines_behind old.passed input) found → FindsHits subject (each read_line all) found × (length input ≤ old.limit)
+  has_read_to_end input all old new ln found g h = let e = g.end refl in (has_read_all all (lines_behind old.passed input) found h e.0, e.1)
+
+  -- the ids of the hits are the answer
+  pub finds_hits : (input : List ℕ) (all : List (ℕ × List ℕ)) (limit : ℕ) (found : HitIds) (ids : List (List ℕ)) → FindsHits subject (each read_line all) found → length input ≤ limit
+      → ((repos : List Repo) (asks : Subject) (imports : List Advisory) → HoldsHits repos asks imports found → ids ≡ hit_ids imports repos asks) → Finds input (advisories_alone all) limit subject ids
+  unfolding repos_of
+  finds_hits input all limit found ids f le same = record {
+    answer = ap (λ (r : Result (List Advisory) LineFault). answer subject r (Ok [])) f.1 ∙ ap ids_output (sym (same [] subject f.0 f.2));
+    within = le;
+  }

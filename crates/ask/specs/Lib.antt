@@ -4,3 +4,4 @@ pub mod Parts
 pub mod Commits
 pub mod Asked
 pub mod Checked
+pub mod Stops

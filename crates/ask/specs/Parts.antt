@@ -1,12 +1,8 @@
 -- The parts of an input: advisories, and the line that names a repository with the stream behind it (our own).
-use Rattle.std.specs.Prelude.{◌≡◌, ℕ, ◌&&◌, nat_lt, List, [], ◌∷◌, length, take, drop, Option, Some, None, option_map, if◌then◌else◌, Ok, codes}
+use Rattle.std.specs.Prelude.{ℕ, ◌&&◌, nat_lt, List, [], ◌∷◌, length, take, drop, Option, Some, None, if◌then◌else◌, codes}
 use Rattle.std.specs.Option.{option_map_or}
 use Rattle.std.specs.Str.{bytes_eq, is_utf8}
-use Rattle.osv_prim.specs.Results.{each}
 use Rattle.line_input.specs.Lines.{behind}
-use Rattle.ask.specs.Line.{read_line}
-use Rattle.ask.specs.declared.parts.ReadParts.{ReadParts}
-use Rattle.ask.specs.declared.parts.RepoPart.{RepoPart}
 
 -- a text, if the bytes are one
 abbrev pub text_in : List ℕ → Option (List ℕ)
@@ -33,11 +29,3 @@ divided input [] = advisories_alone []
 divided input (line ∷ lines) =
     option_map_or (λ url. record { advisories = []; repo = Some (url, behind line.0 input) }) (url_of line.1)
     (with_advisory line (divided input lines))
-
-abbrev pub repo_pair : RepoPart → List ℕ × List ℕ
-repo_pair r = (r.url.now, r.stream.now)
-
--- the advisories were read, and the repository is the one named
-pub record ReadsParts (parts : Parts) (read : ReadParts) : Type 0 where
-  pub advisories : each read_line parts.advisories ≡ Ok read.advisories.items
-  pub repo : parts.repo ≡ option_map repo_pair read.repo

@@ -1,15 +1,24 @@
-ghost use Rattle.std.specs.Prelude.{◌≡◌, ◌≢◌, ◌++◌, ◌<◌, ◌^◌, Ok, Err, IfOk, IfErr, IfSome, map, length, option_map, string_bytes, codes};
+ghost use Rattle.std.specs.Prelude.{◌≡◌, ◌≤◌, ◌∷◌, [], ◌++◌, List, ℕ, Ok, IfOk, IfErr, IsOk, IsErrOf, IsSome, length, map, string_bytes, codes};
 ghost use Rattle.std.specs.Arc.{arc_value};
 ghost use Rattle.std.specs.Fmt.{decimal};
-ghost use Rattle.osv_prim.specs.Results.{Gives};
-ghost use Rattle.fast_export.specs.Stream.{stream, answer};
-ghost use Rattle.ask.specs.Commits.{graph_in, graph_of_rows, refused_at, refused_commits, repo_of, repos_of, rows_of};
-ghost use Rattle.ask.specs.Parts.{repo_pair};
+ghost use Rattle.std.specs.Io.KnownBytes.{IsAtEnd};
+ghost use Rattle.edge_io.specs.Causes.{Rose};
+ghost use Rattle.osv_prim.specs.Results.{Gives, each};
+ghost use Rattle.evaluate.specs.Hits.{Repo};
+ghost use Rattle.fast_export.specs.Reads.{Reads};
+ghost use Rattle.line_input.specs.Reader.{Holds, KnowsEnd};
+ghost use Rattle.settings.specs.declared.TheConstants.{MAX_COMMITS};
+ghost use Rattle.ask.specs.Commits.{graph_in, graph_of_rows, refused_at, refused_commits, repos_of, rows_of};
+ghost use Rattle.ask.specs.Line.{read_line};
+ghost use Rattle.ask.specs.Parts.{Parts};
+ghost use Rattle.ask.specs.Stops.{FeedsStream, GraphStops, MindsRepo, NamesRepo, Stops};
 
-use crate::parts::RepoPart;
+use crate::stop::InputStop;
 use commit_graph::{Graph, GraphFault};
+use edge_io::Source;
 use fast_export::{Reader, StreamFault};
-use osv_prim::{CommitRow, Ledger, List, RepoKey, Steps, Stop};
+use line_input::{LineReader, Next, ReadStop};
+use osv_prim::{CommitRow, Ledger, Memory, RepoKey, Steps, Stop};
 use settings::MAX_COMMITS;
 use std::alloc::{AllocError, Global};
 use std::sync::Arc;
@@ -23,32 +32,111 @@ pub enum CommitFault {
     Graph(GraphFault),
 }
 
-#[tactic(auto, unfolding(crate::specs::Commits::rows_of))]
-fn rows_of(alloc: Global, text: &[u8]) -> Result<List<CommitRow>, Stop<CommitFault>>
-    requires { length text.now < 2 ^ 48 }
-    ensures { Gives (λ r. r) result (rows_of text.now) }
+/// The repositories that an input names, one at most, each with the graph of its commits, whose stream the
+/// reader stands before.
+pub fn repos_of<S: Source, L: Ledger>(
+    alloc: Global,
+    named: Option<RepoKey>,
+    reader: &mut LineReader,
+    source: &mut S,
+    steps: &mut Steps<L>,
+) -> Result<Vec<(RepoKey, Arc<Graph>)>, InputStop>
+    ensures repos { IfOk result (λ v. (input : List ℕ) → (parts : Parts) → NamesRepo input parts.repo named reader.old (S.left source.old)
+        → (repos_of parts.repo ≡ Ok (map (λ g. (g.0, arc_value g.1)) v.items)) × (length input ≤ reader.old.limit)) }
+    ensures stops { IfErr result (λ e. (input : List ℕ) → (parts : Parts) → IsOk (each read_line parts.advisories) → NamesRepo input parts.repo named reader.old (S.left source.old)
+        → Stops input parts e reader.new (S.left source.new)) }
+    ensures end { IsOk result → MindsRepo named reader.old (S.left source.old) → IsAtEnd (S.left source.new) }
+    ensures limit { reader.new.limit ≡ reader.old.limit }
+    ensures failed { IsErrOf result (InputStop.Read ReadStop.Source) → Rose (S.faults source.old) (S.faults source.new) }
+    ensures later { S.faults source.old ≤ S.faults source.new }
 {
-    match read_whole(alloc, text) {
+    match named {
+        None => Ok(Vec::new(alloc)),
+        Some(key) => {
+            let graph = graph_behind(alloc, reader, source, steps)?;
+            Ok(one_repo(alloc, key, graph)?)
+        }
+    }
+}
+
+fn one_repo(alloc: Global, key: RepoKey, graph: Graph) -> Result<Vec<(RepoKey, Arc<Graph>)>, Memory>
+    ensures { IfOk result (λ v. let repo : Repo = (key, graph) in map (λ g. (g.0, arc_value g.1)) v.items ≡ repo ∷ []) }
+{
+    let mut repos = Vec::new(alloc);
+    repos.push((key, Arc::new(alloc, graph)?))?;
+    Ok(repos)
+}
+
+fn graph_behind<S: Source, L: Ledger>(
+    alloc: Global,
+    reader: &mut LineReader,
+    source: &mut S,
+    steps: &mut Steps<L>,
+) -> Result<Graph, InputStop>
+    ensures graph { IfOk result (λ g. (text : List ℕ) → (total : ℕ) → Holds text total reader.old (S.left source.old) → (graph_in text ≡ Ok g) × (total ≤ reader.old.limit)) }
+    ensures stops { IfErr result (λ e. (text : List ℕ) → (total : ℕ) → Holds text total reader.old (S.left source.old) → GraphStops text total reader.old.limit e) }
+    ensures end { IsOk result → KnowsEnd reader.old (S.left source.old) → IsAtEnd (S.left source.new) }
+    ensures limit { reader.new.limit ≡ reader.old.limit }
+    ensures failed { IsErrOf result (InputStop.Read ReadStop.Source) → Rose (S.faults source.old) (S.faults source.new) }
+    ensures later { S.faults source.old ≤ S.faults source.new }
+{
+    match read_stream(alloc, reader, source)? {
+        Some(stream) => Ok(graph_of(alloc, stream, steps)?),
+        None => Err(InputStop::TooLarge),
+    }
+}
+
+// The stream is never held, and a fault of it is told only once the input is known to be within the limit.
+fn read_stream<S: Source>(
+    alloc: Global,
+    reader: &mut LineReader,
+    source: &mut S,
+) -> Result<Option<Reader>, ReadStop>
+    ensures feeds { IfOk result (λ s. (text : List ℕ) → (total : ℕ) → Holds text total reader.old (S.left source.old) → FeedsStream text total reader.old.limit s) }
+    ensures end { IfOk result (λ s. IsSome s → KnowsEnd reader.old (S.left source.old) → IsAtEnd (S.left source.new)) }
+    ensures limit { reader.new.limit ≡ reader.old.limit }
+    ensures failed { IsErrOf result ReadStop.Source → Rose (S.faults source.old) (S.faults source.new) }
+    ensures later { S.faults source.old ≤ S.faults source.new }
+{
+    let mut stream = Reader::new(alloc, MAX_COMMITS)?;
+    'pieces: loop {
+        match reader.piece(source)? {
+            Next::Here => {}
+            Next::End => return Ok(Some(stream)),
+            Next::TooLarge => return Ok(None),
+        }
+        // A fault stays in the stream's reader, which answers it at its end.
+        let _ = stream.feed(reader.line().text);
+    }
+}
+
+#[tactic(auto, unfolding(crate::specs::Commits::graph_in))]
+fn graph_of<L: Ledger>(
+    alloc: Global,
+    stream: Reader,
+    steps: &mut Steps<L>,
+) -> Result<Graph, Stop<CommitFault>>
+    ensures { (text : List ℕ) → Reads MAX_COMMITS text stream → Gives (λ g. g) result (graph_in text) }
+{
+    let rows = rows_of(stream)?;
+    graph_of_rows(alloc, rows, steps)
+}
+
+#[tactic(auto, unfolding(crate::specs::Commits::rows_of))]
+fn rows_of(stream: Reader) -> Result<osv_prim::List<CommitRow>, Stop<CommitFault>>
+    ensures { (text : List ℕ) → Reads MAX_COMMITS text stream → Gives (λ r. r) result (rows_of text) }
+{
+    match stream.finish() {
         Ok(rows) => Ok(rows),
         Err(StreamFault::Memory) => Err(Stop::Memory),
         Err(fault) => Err(Stop::Refused(CommitFault::Stream(fault))),
     }
 }
 
-fn read_whole(alloc: Global, text: &[u8]) -> Result<List<CommitRow>, StreamFault>
-    requires { length text.now < 2 ^ 48 }
-    ensures ok { IfOk result (λ rows. answer (length text.now) (stream text.now MAX_COMMITS) ≡ Ok rows) }
-    ensures err { IfErr result (λ e. e ≢ StreamFault.Memory → answer (length text.now) (stream text.now MAX_COMMITS) ≡ Err e) }
-{
-    let mut reader = Reader::new(alloc, MAX_COMMITS)?;
-    reader.feed(text)?;
-    reader.finish()
-}
-
 #[tactic(auto, unfolding(crate::specs::Commits::graph_of_rows))]
 fn graph_of_rows<L: Ledger>(
     alloc: Global,
-    rows: List<CommitRow>,
+    rows: osv_prim::List<CommitRow>,
     steps: &mut Steps<L>,
 ) -> Result<Graph, Stop<CommitFault>>
     ensures { Gives (λ g. g) result (graph_of_rows rows) }
@@ -58,38 +146,6 @@ fn graph_of_rows<L: Ledger>(
         Err(GraphFault::Memory) => Err(Stop::Memory),
         Err(fault) => Err(Stop::Refused(CommitFault::Graph(fault))),
     }
-}
-
-#[tactic(auto, unfolding(crate::specs::Commits::graph_in))]
-fn graph_in<L: Ledger>(
-    alloc: Global,
-    text: &[u8],
-    steps: &mut Steps<L>,
-) -> Result<Graph, Stop<CommitFault>>
-    requires { length text.now < 2 ^ 48 }
-    ensures { Gives (λ g. g) result (graph_in text.now) }
-{
-    let rows = rows_of(alloc, text)?;
-    graph_of_rows(alloc, rows, steps)
-}
-
-/// The repositories that an input names, one at most, each with the graph of its commits.
-#[tactic(auto, unfolding(crate::specs::Commits::repos_of, crate::specs::Commits::repo_of))]
-pub fn repos_of<L: Ledger>(
-    alloc: Global,
-    named: Option<RepoPart<'_>>,
-    steps: &mut Steps<L>,
-) -> Result<Vec<(RepoKey, Arc<Graph>)>, Stop<CommitFault>>
-    requires { IfSome named (λ p. length p.stream.now < 2 ^ 48) }
-    ensures { Gives (λ v. map (λ g. (g.0, arc_value g.1)) v.items) result (repos_of (option_map repo_pair named.entry)) }
-{
-    let mut repos = Vec::new(alloc);
-    if let Some(part) = named {
-        let graph = graph_in(alloc, part.stream, steps)?;
-        let key = RepoKey::normal(alloc, part.url)?;
-        repos.push((key, Arc::new(alloc, graph)?))?;
-    }
-    Ok(repos)
 }
 
 /// The line that says why there is no graph.

@@ -1,45 +1,81 @@
-ghost use Rattle.std.specs.Prelude.{◌≡◌, ◌<◌, ◌^◌, List, map, length, IfOk, IfErr, OnOk};
-ghost use Rattle.std.specs.Arc.{arc_value};
+ghost use Rattle.std.specs.Prelude.{◌≡◌, ◌≤◌, List, ℕ, length, IfOk, IfErr, IsOk, IsErrOf, OnOk};
+ghost use Rattle.std.specs.Io.KnownBytes.{IsAtEnd};
 ghost use Rattle.std.specs.List.{flat_map};
-ghost use Rattle.evaluate.specs.Hits.{Repo, hit_ids};
-ghost use Rattle.evaluate.specs.Kept.{HoldsHits};
+ghost use Rattle.edge_io.specs.Causes.{Rose};
 ghost use Rattle.osv_prim.specs.Results.{Fails, each};
-ghost use Rattle.osv_prim.specs.declared.subject.Subject.{Subject};
-ghost use Rattle.osv_record.specs.Advisories.{Advisory};
 ghost use Rattle.line_input.specs.Cursor.{line_pair};
 ghost use Rattle.line_input.specs.Lines.{numbered};
+ghost use Rattle.line_input.specs.Reader.{KnowsEnd, StandsIn};
 ghost use Rattle.ask.specs.Asked.{FindsHits, TakesLine, ids_output, line_of};
 ghost use Rattle.ask.specs.Line.{read_line};
+ghost use Rattle.ask.specs.Parts.{advisories_alone};
+ghost use Rattle.ask.specs.Stops.{Finds, Stops};
 
 use crate::line::{LineFault, read_line};
 use crate::output::Output;
-use commit_graph::Graph;
+use crate::stop::InputStop;
+use edge_io::Source;
 use evaluate::HitIds;
-use line_input::{Lines, NumberedLine};
-use osv_prim::{Bytes, Id, Ledger, Memory, RepoKey, Steps, Stop, Subject};
-use osv_record::{Buffers, Record};
+use line_input::{LineReader, Next, NumberedLine, ReadStop};
+use osv_prim::{Bytes, Id, Ledger, Memory, Steps, Stop, Subject};
+use osv_record::Buffers;
 use std::alloc::{AllocError, Global};
-use std::sync::Arc;
 
-/// The hits of the advisories of all lines, where no repository is known. An advisory is let go once
-/// it was looked at, so that a run holds little beside its input.
-pub fn hits_of_lines<L: Ledger>(
+/// The ids of the hits among the advisories of all lines, where no repository is known. The reader stands
+/// at the front of its input.
+pub fn hits_of_lines<S: Source, L: Ledger>(
     alloc: Global,
     subject: &Subject,
-    input: &[u8],
+    reader: &mut LineReader,
+    source: &mut S,
     steps: &mut Steps<L>,
-) -> Result<HitIds, Stop<LineFault>>
-    requires { length input.now < 2 ^ 48 }
-    ensures ok { IfOk result (FindsHits subject.now (each read_line (numbered 1 input.now))) }
-    ensures err { IfErr result (λ e. Fails e (each read_line (numbered 1 input.now))) }
+) -> Result<Vec<Id>, InputStop>
+    requires { reader.old.passed ≡ 0 }
+    ensures ids { IfOk result (λ v. (input : List ℕ) → StandsIn input reader.old (S.left source.old) → Finds input (advisories_alone (numbered 1 input)) reader.old.limit subject.now v.items) }
+    ensures stops { IfErr result (λ e. (input : List ℕ) → StandsIn input reader.old (S.left source.old) → Stops input (advisories_alone (numbered 1 input)) e reader.new (S.left source.new)) }
+    ensures end { IsOk result → KnowsEnd reader.old (S.left source.old) → IsAtEnd (S.left source.new) }
+    ensures limit { reader.new.limit ≡ reader.old.limit }
+    ensures failed { IsErrOf result (InputStop.Read ReadStop.Source) → Rose (S.faults source.old) (S.faults source.new) }
+    ensures later { S.faults source.old ≤ S.faults source.new }
 {
-    let mut lines = Lines::new(input);
+    let found = import_lines(alloc, subject, reader, source, steps)?;
+    Ok(found.into_vec(alloc)?)
+}
+
+// An advisory is let go once it was looked at, so that a run holds no more than one.
+fn import_lines<S: Source, L: Ledger>(
+    alloc: Global,
+    subject: &Subject,
+    reader: &mut LineReader,
+    source: &mut S,
+    steps: &mut Steps<L>,
+) -> Result<HitIds, InputStop>
+    requires { reader.old.passed ≡ 0 }
+    ensures found { IfOk result (λ found. (input : List ℕ) → StandsIn input reader.old (S.left source.old)
+        → FindsHits subject.now (each read_line (numbered 1 input)) found × (length input ≤ reader.old.limit)) }
+    ensures stops { IfErr result (λ e. (input : List ℕ) → StandsIn input reader.old (S.left source.old) → Stops input (advisories_alone (numbered 1 input)) e reader.new (S.left source.new)) }
+    ensures end { IsOk result → KnowsEnd reader.old (S.left source.old) → IsAtEnd (S.left source.new) }
+    ensures limit { reader.new.limit ≡ reader.old.limit }
+    ensures failed { IsErrOf result (InputStop.Read ReadStop.Source) → Rose (S.faults source.old) (S.faults source.new) }
+    ensures later { S.faults source.old ≤ S.faults source.new }
+{
     let mut buffers = Buffers::new(alloc);
     let mut found = HitIds::new(alloc);
-    while let Some(line) = lines.next() {
-        take_line(alloc, line, &mut buffers, subject, &mut found, steps)?;
+    'lines: loop {
+        match reader.next(source)? {
+            Next::Here => {}
+            Next::End => return Ok(found),
+            Next::TooLarge => return Err(InputStop::TooLarge),
+        }
+        take_line(
+            alloc,
+            reader.line(),
+            &mut buffers,
+            subject,
+            &mut found,
+            steps,
+        )?;
     }
-    Ok(found)
 }
 
 fn take_line<L: Ledger>(
@@ -58,31 +94,13 @@ fn take_line<L: Ledger>(
     Ok(())
 }
 
-/// The hits of advisories that were read.
-pub fn hits_of_advisories<L: Ledger>(
-    alloc: Global,
-    subject: &Subject,
-    advisories: Vec<Record>,
-    repos: &[(RepoKey, Arc<Graph>)],
-    steps: &mut Steps<L>,
-) -> Result<HitIds, Memory>
-    ensures { IfOk result (HoldsHits (map (λ g. (g.0, arc_value g.1)) repos.now) subject.now advisories.items) }
-{
-    let mut found = HitIds::new(alloc);
-    for advisory in advisories {
-        found.import(alloc, advisory, repos, subject, steps)?;
-    }
-    Ok(found)
-}
-
 /// The ids, a line each.
-pub fn ids_output(alloc: Global, found: HitIds) -> Result<Output, Memory>
-    ensures { IfOk result (λ o. (repos : List Repo) (subject : Subject) (imports : List Advisory) → HoldsHits repos subject imports found → o ≡ ids_output (hit_ids imports repos subject)) }
+pub fn ids_output(alloc: Global, ids: &[Id]) -> Result<Output, Memory>
+    ensures { IfOk result (λ o. o ≡ ids_output ids.now) }
 {
-    let ids = found.into_vec(alloc)?;
     Ok(Output {
         status: 0,
-        bytes: Bytes::from_vec(ids_text(alloc, ids.as_slice())?),
+        bytes: Bytes::from_vec(ids_text(alloc, ids)?),
     })
 }
 

@@ -7,7 +7,6 @@
 //! ```
 #![tactic(auto)]
 
-mod answers;
 mod asked;
 mod checked;
 mod commits;
@@ -15,8 +14,9 @@ mod hits;
 mod line;
 mod output;
 mod parts;
+mod stop;
 
-pub use answers::ask;
+pub use asked::ask;
 pub use checked::check;
 pub use commits::CommitFault;
 pub use line::LineFault;

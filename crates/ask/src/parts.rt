@@ -1,54 +1,77 @@
-ghost use Rattle.std.specs.Prelude.{◌≡◌, ◌<◌, ◌≤◌, ◌^◌, IfErr, IfOk, IfSome, length, option_map, codes};
+ghost use Rattle.std.specs.Prelude.{◌≡◌, ◌≤◌, List, ℕ, IfErr, IfOk, IsErrOf, OnOk, option_map, codes};
 ghost use Rattle.std.specs.Str.{bytes_eq};
-ghost use Rattle.osv_prim.specs.Results.{Fails, each};
+ghost use Rattle.edge_io.specs.Causes.{Rose};
+ghost use Rattle.osv_prim.specs.Results.{Fails};
+ghost use Rattle.line_input.specs.Cursor.{line_pair};
 ghost use Rattle.line_input.specs.Lines.{numbered};
+ghost use Rattle.line_input.specs.Reader.{KnowsEnd, StandsIn};
 ghost use Rattle.ask.specs.Line.{read_line};
-ghost use Rattle.ask.specs.Parts.{ReadsParts, divided, text_in, url_of};
+ghost use Rattle.ask.specs.Parts.{divided, text_in, url_of};
+ghost use Rattle.ask.specs.Stops.{KeepsLine, MindsRepo, ReadsParts, Stops};
 
 use crate::line::{LineFault, read_line};
-use line_input::Lines;
-use osv_prim::Stop;
-use osv_record::{Buffers, Record};
+use crate::stop::InputStop;
+use edge_io::Source;
+use evaluate::GitImports;
+use line_input::{LineReader, Next, NumberedLine, ReadStop};
+use osv_prim::{RepoKey, Stop};
+use osv_record::Buffers;
 use std::alloc::Global;
 
-/// The advisories of an input, and the repository that it names behind them.
+/// What is kept of the advisories of an input, and the key of the repository that it names behind them.
 #[derive(Drop)]
-pub struct ReadParts<'a> {
-    pub advisories: Vec<Record>,
-    pub repo: Option<RepoPart<'a>>,
+pub struct ReadParts {
+    pub kept: GitImports,
+    pub repo: Option<RepoKey>,
 }
 
-/// A repository's URL, and the stream of its commits.
-#[derive(Clone, Copy)]
-pub struct RepoPart<'a> {
-    pub url: &'a str,
-    pub stream: &'a [u8],
-}
-
-/// Reads the advisories of an input up to the line that names a repository.
-pub fn read_parts(alloc: Global, input: &[u8]) -> Result<ReadParts<'_>, Stop<LineFault>>
-    requires { length input.now < 2 ^ 48 }
-    ensures ok { IfOk result (ReadsParts (divided input.now (numbered 1 input.now))) }
-    ensures err { IfErr result (λ e. Fails e (each read_line (divided input.now (numbered 1 input.now)).advisories)) }
-    ensures within { IfOk result (λ p. IfSome p.repo (λ r. length r.stream.now ≤ length input.now)) }
+/// Reads the advisories of an input up to the line that names a repository, and stands behind that line
+/// then. The reader stands at the front of the input before.
+pub fn read_parts<S: Source>(
+    alloc: Global,
+    reader: &mut LineReader,
+    source: &mut S,
+) -> Result<ReadParts, InputStop>
+    requires { reader.old.passed ≡ 0 }
+    ensures reads { IfOk result (λ p. (input : List ℕ) → StandsIn input reader.old (S.left source.old) → ReadsParts input (divided input (numbered 1 input)) p reader.new (S.left source.new)) }
+    ensures stops { IfErr result (λ e. (input : List ℕ) → StandsIn input reader.old (S.left source.old) → Stops input (divided input (numbered 1 input)) e reader.new (S.left source.new)) }
+    ensures end { IfOk result (λ p. KnowsEnd reader.old (S.left source.old) → MindsRepo p.repo reader.new (S.left source.new)) }
+    ensures limit { reader.new.limit ≡ reader.old.limit }
+    ensures failed { IsErrOf result (InputStop.Read ReadStop.Source) → Rose (S.faults source.old) (S.faults source.new) }
+    ensures later { S.faults source.old ≤ S.faults source.new }
 {
-    let mut lines = Lines::new(input);
     let mut buffers = Buffers::new(alloc);
-    let mut advisories = Vec::new(alloc);
-    while let Some(line) = lines.next() {
+    let mut kept = GitImports::new(alloc);
+    'lines: loop {
+        match reader.next(source)? {
+            Next::Here => {}
+            Next::End => return Ok(ReadParts { kept, repo: None }),
+            Next::TooLarge => return Err(InputStop::TooLarge),
+        }
+        let line = reader.line();
         if let Some(url) = url_of(line.text) {
-            let stream = lines.rest();
+            let key = RepoKey::normal(alloc, url)?;
             return Ok(ReadParts {
-                advisories,
-                repo: Some(RepoPart { url, stream }),
+                kept,
+                repo: Some(key),
             });
         }
-        advisories.push(read_line(alloc, line, &mut buffers)?)?;
+        keep_line(alloc, line, &mut buffers, &mut kept)?;
     }
-    Ok(ReadParts {
-        advisories,
-        repo: None,
-    })
+}
+
+fn keep_line(
+    alloc: Global,
+    line: NumberedLine<'_>,
+    buffers: &mut Buffers,
+    kept: &mut GitImports,
+) -> Result<(), Stop<LineFault>>
+    ensures ok { OnOk result (KeepsLine (line_pair line.entry) kept.old kept.new) }
+    ensures err { IfErr result (λ d. Fails d (read_line (line_pair line.entry))) }
+{
+    let advisory = read_line(alloc, line, buffers)?;
+    kept.import(advisory)?;
+    Ok(())
 }
 
 // The URL of a line `repo URL`. A URL is a text that is not empty.

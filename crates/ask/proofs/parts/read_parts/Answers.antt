@@ -1,17 +1,29 @@
-use Rattle.std.proofs.Common.{ℕ, List, Bor, option_map, sym, ap, subst, ◌∙◌}
-use Rattle.line_input.specs.Cursor.{lines_left, line_pair}
+use Rattle.std.proofs.Common.{◌∙◌, ℕ, List, Bor, Ok, option_map, sym, ap, subst, arith}
 use Rattle.line_input.specs.Lines.{numbered}
-use Rattle.ask.proofs.Dividing.{HasDivided, divided_more}
+use Rattle.line_input.specs.Reader.{GivesLine}
+use Rattle.line_input.specs.declared.reader.Next.{Next}
+use Rattle.ask.specs.Parts.{url_of}
+use Rattle.ask.specs.Stops.{KeepsLine}
+use Rattle.ask.proofs.Dividing.{divided_line}
 use Rattle.ask.proofs.parts.read_parts.Goals as goal
 
-pub loop-line-preserved : goal.loop-line-preserved
-loop-line-preserved c =
-    let input = c.args.input.now in
-    let all = numbered 1 input in
-    let here = subst (λ (ls : List (ℕ × List ℕ)). HasDivided input all ls c.loop-line.advisories.items) c.in-Some.ensures.some c.loop-line.invariant.divided in
+pub lines-preserved : goal.lines-preserved
+lines-preserved g c =
+    let i = c.lines.invariant in
+    let n = c.in_ok-next.ensures in
+    let old = c.lines.reader in
+    let new = c.next.new.self in
+    let left = g.S.Source.left c.next.new.source in
     record {
-      divided =
-          divided_more input all (lines_left c.next.new.self) (line_pair c.in-Some.line) c.loop-line.advisories.items c.push.new.self.items c.in_ok-read_line.field-0
-          (sym c.url_of.ensures ∙ ap (option_map (λ (u : Bor (List ℕ)). u.now)) c.in_default-url_of.is) c.in_ok-read_line.ensures c.in_ok-push.ensures.items here;
-      of = c.in-Some.ensures.of input c.loop-line.invariant.of;
+      limit = n.limit ∙ i.limit;
+      divided = λ input s.
+          let h = i.divided input s in
+          let line = subst (λ (x : Next). GivesLine input old new left (Ok x)) c.in-Here.is (n.line input h.0) in (
+            line.stands,
+            divided_line input (numbered 1 input) old new left c.lines.kept c.keep_line.new.kept line
+                (ap (λ (l : ℕ × List ℕ). url_of l.1) (sym c.line-line.ensures) ∙ sym c.url_of.ensures ∙ ap (option_map (λ (u : Bor (List ℕ)). u.now)) c.in_default.is) h.1
+                (subst (λ (l : ℕ × List ℕ). KeepsLine l c.lines.kept c.keep_line.new.kept) c.line-line.ensures c.in_ok-keep_line.ensures.ok),
+          );
+      ends = λ k. (n.at_end (i.ends k)).0;
+      later = omega (arith, i.later, n.later);
     }

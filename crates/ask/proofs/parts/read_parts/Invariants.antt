@@ -1,14 +1,17 @@
-use Rattle.std.proofs.Common.{length}
-use Rattle.line_input.specs.Cursor.{IsOf, lines_left}
+use Rattle.std.proofs.Common.{◌≡◌, ◌≤◌, ℕ, List}
 use Rattle.line_input.specs.Lines.{numbered}
+use Rattle.line_input.specs.Reader.{KnowsEnd, StandsIn, lines_behind, to_come}
 use Rattle.ask.proofs.Dividing.{HasDivided}
 use Rattle.ask.proofs.parts.read_parts.Given as goal
 
-abbrev pub invariant-loop-line : goal.invariant-loop-line
-invariant-loop-line l = record {
-  divided : HasDivided l.input (numbered 1 l.input) (lines_left l.lines) l.advisories.items;
-  of : IsOf l.input l.lines;
+abbrev pub invariant-lines : goal.invariant-lines
+invariant-lines g l = record {
+  limit : l.reader.limit ≡ l.fn.reader.limit;
+  divided : (input : List ℕ) → StandsIn input l.fn.reader (g.S.Source.left l.fn.source)
+      → StandsIn input l.reader (g.S.Source.left l.source) × HasDivided input (numbered 1 input) (lines_behind l.reader.passed input) l.kept;
+  ends : KnowsEnd l.fn.reader (g.S.Source.left l.fn.source) → KnowsEnd l.reader (g.S.Source.left l.source);
+  later : g.S.Source.faults l.fn.source ≤ g.S.Source.faults l.source;
 }
 
-abbrev pub decreases-loop-line : goal.decreases-loop-line
-decreases-loop-line l = length (lines_left l.lines)
+abbrev pub decreases-lines : goal.decreases-lines
+decreases-lines g l = to_come l.reader
