@@ -9,7 +9,7 @@ use Rattle.osv_prim.specs.declared.subject.Subject.{Subject}
 use Rattle.osv_record.specs.Advisories.{Advisory}
 use Rattle.evaluate.specs.Hits.{Repo}
 use Rattle.line_input.specs.Reader.{StandsIn}
-use Rattle.line_input.specs.declared.input.ReadStop.{ReadStop}
+use Rattle.line_input.specs.declared.stop.ReadStop.{ReadStop}
 use Rattle.line_input.specs.declared.reader.LineReader.{LineReader}
 use Rattle.ask.specs.Asked.{answer, answer_to_parts, asked, ids_output, parts}
 use Rattle.ask.specs.Commits.{refused_commits, repos_of}

@@ -13,7 +13,7 @@ use Rattle.fast_export.specs.Reads.{Reads}
 use Rattle.fast_export.specs.declared.reader.Reader.{Reader}
 use Rattle.settings.specs.declared.TheConstants.{MAX_COMMITS}
 use Rattle.line_input.specs.Reader.{Holds, KnowsEnd, StandsIn}
-use Rattle.line_input.specs.declared.input.ReadStop.TheVariants.{Memory}
+use Rattle.line_input.specs.declared.stop.ReadStop.TheVariants.{Memory}
 use Rattle.line_input.specs.declared.reader.LineReader.{LineReader}
 use Rattle.ask.specs.Asked.{answer_to_parts, ids_output}
 use Rattle.ask.specs.Commits.{graph_in, repos_of}

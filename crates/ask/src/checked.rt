@@ -5,7 +5,7 @@ ghost use Rattle.osv_record.specs.Reading.{advisory};
 ghost use Rattle.ask.specs.Checked.{checked, is_refused, notice_line, ok_line, place, refused_verdict, verdict, verdicts_output, AddsVerdict};
 ghost use Rattle.ask.specs.Outputs.{IsAnswer, within};
 ghost use Rattle.edge_io.specs.Causes.{Rose};
-ghost use Rattle.line_input.specs.Cursor.{line_pair};
+ghost use Rattle.line_input.specs.Reader.{line_pair};
 ghost use Rattle.settings.specs.declared.TheConstants.{MAX_INPUT_BYTES};
 
 use crate::output::{Output, too_large};

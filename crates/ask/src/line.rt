@@ -1,7 +1,7 @@
 ghost use Rattle.std.specs.Prelude.{◌≡◌, ◌++◌, IfOk, string_bytes, codes};
 ghost use Rattle.std.specs.Fmt.{decimal};
 ghost use Rattle.osv_prim.specs.Results.{Gives};
-ghost use Rattle.line_input.specs.Cursor.{line_pair};
+ghost use Rattle.line_input.specs.Reader.{line_pair};
 ghost use Rattle.ask.specs.Line.{read_line, refused_line};
 
 use line_input::NumberedLine;

@@ -2,9 +2,8 @@ ghost use Rattle.std.specs.Prelude.{◌≡◌, ◌≤◌, List, ℕ, IfErr, IfOk
 ghost use Rattle.std.specs.Str.{bytes_eq};
 ghost use Rattle.edge_io.specs.Causes.{Rose};
 ghost use Rattle.osv_prim.specs.Results.{Fails};
-ghost use Rattle.line_input.specs.Cursor.{line_pair};
 ghost use Rattle.line_input.specs.Lines.{numbered};
-ghost use Rattle.line_input.specs.Reader.{KnowsEnd, StandsIn};
+ghost use Rattle.line_input.specs.Reader.{KnowsEnd, StandsIn, line_pair};
 ghost use Rattle.ask.specs.Line.{read_line};
 ghost use Rattle.ask.specs.Parts.{divided, text_in, url_of};
 ghost use Rattle.ask.specs.Stops.{KeepsLine, MindsRepo, ReadsParts, Stops};

@@ -1,8 +1,8 @@
 -- What stands behind some line ends of a text.
-use Rattle.std.proofs.Common.{◌≡◌, ℕ, zero, suc, ◌+◌, ◌<◌, ◌≤◌, true, List, [], length, drop, get_or, sym, ap, ◌∙◌, add-one, arith}
+use Rattle.std.proofs.Common.{◌≡◌, ℕ, ◌+◌, ◌<◌, true, List, [], length, drop, get_or, sym, ap, ◌∙◌, add-one, arith}
 use Rattle.std.specs.Prelude.{◌==◌}
 use Rattle.std.specs.List.{after_first, position_or_len}
-use Rattle.std.proofs.lemmas.List.{drop_all, length-drop}
+use Rattle.std.proofs.lemmas.List.{drop_all}
 use Rattle.std.proofs.lemmas.List.Sums.{position_or_len_is}
 use Rattle.line_input.specs.Lines.{behind, is_line_end, NoneBefore}
 use Rattle.line_input.proofs.Cut.{not_here}
@@ -21,7 +21,3 @@ none_first text none =
 -- one line end more
 pub one_more : (n : ℕ) (input rest after : List ℕ) → after ≡ after_first is_line_end rest → rest ≡ behind n input → after ≡ behind (n + 1) input
 one_more n input rest after next here = next ∙ ap (after_first is_line_end) here ∙ ap (λ (k : ℕ). behind k input) (sym (add-one n))
-
-pub within : (n : ℕ) (input : List ℕ) → length (behind n input) ≤ length input
-within zero input = omega arith
-within (suc n) input = omega (arith, length-drop (position_or_len is_line_end (behind n input) + 1) (behind n input), within n input)

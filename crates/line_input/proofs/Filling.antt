@@ -6,7 +6,7 @@ use Rattle.std.proofs.lemmas.List.{append-nil, drop_all, get_or_append_left, len
 use Rattle.line_input.specs.Lines.{NoneBefore}
 use Rattle.line_input.specs.Reader.{Advances, Fills, GivesPiece, Holds, Marks, given_count, pending}
 use Rattle.line_input.specs.Window.{items}
-use Rattle.line_input.specs.declared.input.ReadStop.{ReadStop}
+use Rattle.line_input.specs.declared.stop.ReadStop.{ReadStop}
 use Rattle.line_input.specs.declared.reader.LineReader.{LineReader}
 use Rattle.line_input.specs.declared.reader.Next.{Next}
 use Rattle.line_input.specs.declared.reader.Next.TheVariants.{Here, End, TooLarge}

@@ -1,12 +1,12 @@
 -- Where a reader of lines stands after each of its steps.
-use Rattle.std.proofs.Common.{◌≡◌, ◌≢◌, ℕ, zero, suc, ◌+◌, ◌-◌, ◌<◌, ◌≤◌, true, List, [], ◌∷◌, ◌++◌, length, take, drop, get_or, Option, Some, None, Result, Ok, Err, refl, sym, ap, subst, ◌∙◌, arith, length-append, append_assoc}
-use Rattle.std.specs.Prelude.{◌==◌, IfSome}
-use Rattle.std.specs.Io.KnownBytes.{Consumes, IsAtEnd, Keeps, prepend_known}
+use Rattle.std.proofs.Common.{◌≡◌, ℕ, ◌+◌, ◌<◌, ◌≤◌, true, List, [], ◌∷◌, ◌++◌, length, take, drop, get_or, Option, Some, None, Result, Ok, refl, sym, ap, subst, ◌∙◌, arith, length-append, append_assoc}
+use Rattle.std.specs.Prelude.{◌==◌}
+use Rattle.std.specs.Io.KnownBytes.{Consumes, IsAtEnd, Keeps}
 use Rattle.std.proofs.lemmas.List.{append-nil, drop-append-le, take-append-le, take_all, drop_all, get_or_append_left, length-take-le}
 use Rattle.line_input.specs.Lines.{CutsLine, NoneBefore, behind, numbered}
 use Rattle.line_input.specs.Reader.{Advances, Fills, GivesLine, Holds, KnowsEnd, Marks, StandsIn, current, lines_behind, pending}
 use Rattle.line_input.specs.Window.{items}
-use Rattle.line_input.specs.declared.input.ReadStop.{ReadStop}
+use Rattle.line_input.specs.declared.stop.ReadStop.{ReadStop}
 use Rattle.line_input.specs.declared.reader.LineReader.{LineReader}
 use Rattle.line_input.specs.declared.reader.Next.{Next}
 use Rattle.line_input.specs.declared.reader.Next.TheVariants.{Here, End, TooLarge}

@@ -1,5 +1,3 @@
 pub mod Lines
-pub mod Cursor
-pub mod Input
 pub mod Window
 pub mod Reader

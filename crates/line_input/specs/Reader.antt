@@ -3,14 +3,19 @@ use Rattle.std.specs.Prelude.{◌≡◌, ◌≤◌, ◌<◌, ◌+◌, ◌-◌, �
 use Rattle.std.specs.Io.KnownBytes.{IsAtEnd, Consumes, prepend_known}
 use Rattle.line_input.specs.Lines.{CutsLine, behind, numbered}
 use Rattle.line_input.specs.Window.{items}
-use Rattle.line_input.specs.declared.input.ReadStop.{ReadStop}
+use Rattle.line_input.specs.declared.stop.ReadStop.{ReadStop}
 use Rattle.line_input.specs.declared.reader.LineReader.{LineReader}
 use Rattle.line_input.specs.declared.reader.Next.{Next}
 use Rattle.line_input.specs.declared.reader.Next.TheVariants.{Here, End, TooLarge}
+use Rattle.line_input.specs.declared.reader.NumberedLine.{NumberedLine}
 
 -- the bytes that were read and not given yet
 abbrev pub pending : LineReader → List ℕ
 pending r = drop r.given (items r.window)
+
+-- a line and its number
+abbrev pub line_pair : NumberedLine → ℕ × List ℕ
+line_pair l = (l.number, l.text.now)
 
 -- what was given last, with the number of the last line
 abbrev pub current : LineReader → ℕ × List ℕ

@@ -1,5 +1,4 @@
-//! An input by lines: a reader of the lines of a source as they come, and all the bytes of a source with a
-//! cursor over their lines.
+//! An input by lines: a reader of the lines of a source as they come.
 //!
 //! ```
 //! let mut reader = LineReader::new(alloc, 1 << 20);
@@ -8,22 +7,11 @@
 //!     println!(rt; "line {} has {} bytes", line.number, line.text.len())?;
 //! }
 //! ```
-//!
-//! ```
-//! if let Input::Whole(bytes) = read_all(alloc, &mut source, 1 << 20)? {
-//!     let mut lines = Lines::new(&bytes);
-//!     while let Some(line) = lines.next() {
-//!         println!(rt; "line {} has {} bytes", line.number, line.text.len())?;
-//!     }
-//! }
-//! ```
 #![tactic(auto)]
 
-mod input;
-mod lines;
 mod reader;
+mod stop;
 mod window;
 
-pub use input::{Input, ReadStop, read_all};
-pub use lines::{Lines, NumberedLine};
-pub use reader::{LineReader, Next};
+pub use reader::{LineReader, Next, NumberedLine};
+pub use stop::ReadStop;

@@ -3,8 +3,7 @@ ghost use Rattle.edge_io.specs.Causes.{Rose};
 ghost use Rattle.line_input.specs.Lines.{NoneBefore};
 ghost use Rattle.line_input.specs.Window.{items};
 
-use crate::input::ReadStop;
-use crate::lines::NumberedLine;
+use crate::stop::ReadStop;
 use crate::window::Window;
 use edge_io::Source;
 use memchr::memchr;
@@ -19,6 +18,13 @@ pub enum Next {
     End,
     /// The source has more bytes than the limit.
     TooLarge,
+}
+
+/// A line, and its number, from 1, with the empty lines counted.
+#[derive(Clone, Copy)]
+pub struct NumberedLine<'a> {
+    pub number: u64,
+    pub text: &'a [u8],
 }
 
 /// Reads the lines of a source one after another, by pieces. It holds no more than the longest line and
@@ -42,8 +48,7 @@ pub struct LineReader {
 }
 
 impl LineReader {
-    ghost use Rattle.line_input.specs.Cursor.{line_pair};
-    ghost use Rattle.line_input.specs.Reader.{Advances, Fills, GivesLine, GivesPiece, Holds, IsWithin, KnowsEnd, Marks, MindsEnd, StandsIn, current, given_count, pending, to_come};
+    ghost use Rattle.line_input.specs.Reader.{Advances, Fills, GivesLine, GivesPiece, Holds, IsWithin, KnowsEnd, Marks, MindsEnd, StandsIn, current, given_count, line_pair, pending, to_come};
 
     /// A reader that stands at the front of its source, of which it takes at most `limit` bytes. It takes
     /// no memory.

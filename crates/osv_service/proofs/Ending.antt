@@ -4,8 +4,8 @@ use Rattle.std.specs.Prelude.{IfOk, IfSome, IsErrOf}
 use Rattle.std.specs.Io.KnownBytes.{Appends}
 use Rattle.std.proofs.lemmas.Bool.{cases_lt}
 use Rattle.edge_io.specs.Causes.{Rose}
-use Rattle.line_input.specs.declared.input.ReadStop.{ReadStop}
-use Rattle.line_input.specs.declared.input.ReadStop.TheVariants.{Source, Memory}
+use Rattle.line_input.specs.declared.stop.ReadStop.{ReadStop}
+use Rattle.line_input.specs.declared.stop.ReadStop.TheVariants.{Source, Memory}
 use Rattle.ask.specs.Outputs.{IsAnswer, within}
 use Rattle.ask.specs.declared.output.Output.{Output}
 use Rattle.ask.specs.Asked.{asked}

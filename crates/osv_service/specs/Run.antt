@@ -2,8 +2,8 @@
 use Rattle.std.specs.Prelude.{◌≡◌, ◌≢◌, ◌⊎◌, ℕ, List, take, Option, IfSome, Result, Ok, Err, codes}
 use Rattle.std.specs.Io.KnownBytes.{Appends, Keeps, IsAtEnd}
 use Rattle.edge_io.specs.Causes.{Rose}
-use Rattle.line_input.specs.declared.input.ReadStop.{ReadStop}
-use Rattle.line_input.specs.declared.input.ReadStop.TheVariants.{Source, Memory}
+use Rattle.line_input.specs.declared.stop.ReadStop.{ReadStop}
+use Rattle.line_input.specs.declared.stop.ReadStop.TheVariants.{Source, Memory}
 use Rattle.ask.specs.Asked.{asked}
 use Rattle.ask.specs.Checked.{checked}
 use Rattle.ask.specs.Outputs.{within}

@@ -1,8 +1,7 @@
-use Rattle.std.proofs.Common.{◌≡◌, ◌<◌, ◌∙◌, ℕ, List, Ok, true, length, get_or, refl, sym, ap, subst, arith, length-append}
+use Rattle.std.proofs.Common.{◌≡◌, ◌<◌, ◌∙◌, ℕ, List, Ok, true, length, get_or, refl, ap, subst, arith, length-append}
 use Rattle.std.specs.Prelude.{◌==◌}
 use Rattle.std.proofs.lemmas.List.{length-drop}
 use Rattle.line_input.specs.Lines.{NoneBefore, behind}
-use Rattle.line_input.specs.Reader.{to_come}
 use Rattle.line_input.specs.Window.{items}
 use Rattle.line_input.specs.declared.reader.Next.TheVariants.{Here}
 use Rattle.line_input.proofs.Standing.{beyond, found, held_more, stopped}

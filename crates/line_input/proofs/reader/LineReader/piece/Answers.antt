@@ -1,4 +1,4 @@
-use Rattle.std.proofs.Common.{◌≡◌, ◌≤◌, ◌∙◌, ap, arith}
+use Rattle.std.proofs.Common.{◌≡◌, ◌∙◌, ap, arith}
 use Rattle.line_input.specs.Reader.{Holds, given_count}
 use Rattle.line_input.specs.declared.reader.LineReader.{LineReader}
 use Rattle.line_input.proofs.Standing.{held_more, holds_as}
