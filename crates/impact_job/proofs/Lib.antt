@@ -3,3 +3,8 @@ pub mod Merging
 pub mod ById
 pub mod Graphs
 pub mod Prefixes
+pub mod Walking
+pub mod Deciding
+pub mod Listing
+pub mod Lookups
+pub mod Grouping

@@ -59,7 +59,7 @@ unfolding AllBehind
 all_behind below y [] u o = tt
 all_behind below y (z ∷ zs) u o = (under-push below y z u o.0, all_behind below y zs u o.1)
 
-records-split : (rest below : List Advisory) (found : Option Advisory) (above : List Advisory) (y : Advisory) (ys : List Advisory) → IsSplit y.id rest below found above → Ascending (y ∷ ys)
+pub records-split : (rest below : List Advisory) (found : Option Advisory) (above : List Advisory) (y : Advisory) (ys : List Advisory) → IsSplit y.id rest below found above → Ascending (y ∷ ys)
     → records_from rest (y ∷ ys) ≡ (below ++ y ∷ []) ++ records_from above ys
 records-split rest below found above y ys s a =
     ap (λ (xs : List Advisory). records_from (placed y xs) ys) s.whole
@@ -76,7 +76,7 @@ pub record Merging (done rest later whole : List Advisory) : Type 0 where
   pub rest_ascends : Ascending rest
   pub later_ascends : Ascending later
 
-ascending-behind : (xs ys : List Advisory) → Ascending (xs ++ ys) → Ascending ys
+pub ascending-behind : (xs ys : List Advisory) → Ascending (xs ++ ys) → Ascending ys
 ascending-behind [] ys a = a
 ascending-behind (x ∷ xs) ys a = ascending-behind xs ys a.1
 

@@ -1,13 +1,25 @@
 -- What tables, a prefix and a plan stand for (our own).
-use Rattle.std.specs.Prelude.{◌≡◌, ℕ, List, [], ◌∷◌, ◌++◌, length, map, if◌then◌else◌}
+use Rattle.std.specs.Prelude.{◌≡◌, ◌≢◌, ℕ, List, [], ◌∷◌, ◌++◌, Bool, length, map, drop, if◌then◌else◌}
+use Rattle.std.specs.List.{AllZip, list_any}
 use Rattle.std.specs.Arc.{arc_value}
 use Rattle.std.specs.Str.{bytes_eq}
 use Rattle.std.specs.declared.sync.Arc.{Arc}
+use mathlib.Core.List.{IsPrefix}
+use Rattle.osv_record.specs.Advisories.{Advisory}
 use Rattle.osv_prim.specs.declared.oid.CommitRow.{CommitRow}
 use Rattle.evaluate.specs.Hits.{Repo}
 use Rattle.history.specs.declared.past.Past.{Past}
+use Rattle.history.specs.declared.piece_kind.PieceKind.TheVariants.{Carry}
 use Rattle.history.specs.Prefixes.{advisories, records, graphs}
+use Rattle.history.specs.Lookups.{has_grow}
+use Rattle.history.specs.Pieces.{GitRange, ranges_of, git_ranges_in, kind_of}
+use Rattle.impact_set.specs.Standing.{Known}
+use Rattle.piece_work.specs.declared.piece.Piece as to_do
+use Rattle.piece_work.specs.Pieces.{IsPieceOf}
+use Rattle.piece_work.specs.Sets.{IsSetOf}
 use Rattle.impact_job.specs.declared.tables.Tables.{Tables}
+use Rattle.impact_job.specs.declared.tables.Todo.{Todo}
+use Rattle.impact_job.specs.declared.tables.Todo.TheVariants.{Carried, Piece}
 use Rattle.impact_job.specs.declared.tables.Plan.{Plan}
 use Rattle.impact_job.specs.declared.prefix.Prefix.{Prefix}
 
@@ -29,13 +41,23 @@ abbrev pub with_graphs : List Repo → List Repo → List Repo
 with_graphs repos [] = repos
 with_graphs repos (g ∷ later) = with_graphs (with_graph repos g.0 g.1) later
 
+-- a repository is among these
+abbrev pub has_repo : List Repo → List ℕ → Bool
+has_repo repos key = list_any (λ repo. bytes_eq repo.0 key) repos
+
+-- the sets are those of an advisory's GIT ranges, by entry and range, on the graphs after these imports
+abbrev pub AreSetsOf : {Z : Type 0} → List Past → Advisory → List (Arc Known Z) → Type 0
+AreSetsOf p r sets = AllZip (IsSetOf p) (ranges_of r) (seen sets)
+
 -- the tables are those of these imports
 pub record StandsFor (tables : Tables) (p : List Past) : Type 0 where
   pub upto : tables.upto ≡ length p
   -- the import of each id that counts, ascending by id
-  pub kept : seen tables.records.items ≡ records p
+  pub kept : seen (arc_value tables.records).items ≡ records p
   -- the repositories that have a Grow, each with its graph
-  pub grown : repos_seen tables.repos.items ≡ graphs p
+  pub grown : repos_seen (arc_value tables.repos).items ≡ graphs p
+  -- the sets of each advisory
+  pub sets : AllZip (AreSetsOf p) (records p) tables.sets.items
 
 -- the tables are those of the imports b, and what was added is what came after them in p
 pub record IsPrefixOf (prefix : Prefix) (b p : List Past) : Type 0 where
@@ -45,11 +67,33 @@ pub record IsPrefixOf (prefix : Prefix) (b p : List Past) : Type 0 where
   pub added : seen prefix.added.items ≡ advisories came
   -- the graphs that repositories had after their Grows, put in place of what they had before
   pub grown : with_graphs (graphs b) (repos_seen prefix.grown.items) ≡ graphs p
+  -- they are of the repositories that have a Grow there
+  pub grew : (key : List ℕ) → has_repo (repos_seen prefix.grown.items) key ≡ has_grow came key
   pub upto : prefix.upto ≡ length p
 
 abbrev pub plan_upto : Plan → ℕ
-plan_upto plan = (arc_value plan.tables).upto
+plan_upto plan = plan.upto
+
+-- a piece of the build with this range, whose set is not carried on
+pub record IsPieceFor (b p : List Past) (x : GitRange) (piece : to_do.Piece) : Type 0 where
+  pub its_piece : IsPieceOf piece b p
+  pub its_range : its_piece.range ≡ x
+  pub not_carried : piece.kind ≢ Carry
+
+-- it is what the build over the imports p which stands on the first of them, b, is to do for this range
+abbrev pub IsTodoOf : List Past → List Past → GitRange → Todo → Type 0
+IsTodoOf b p x (Carried set) = (kind_of (drop (length b) p) x ≡ Carry) × IsSetOf p x (arc_value set)
+IsTodoOf b p x (Piece piece) = IsPieceFor b p x piece
 
 -- the plan is that of a build over the imports p which stands on the first of them, b
 pub record IsPlanOf (plan : Plan) (b p : List Past) : Type 0 where
-  pub tables : StandsFor (arc_value plan.tables) p
+  pub front : IsPrefix b p
+  pub upto : plan.upto ≡ length p
+  pub kept : seen (arc_value plan.records).items ≡ records p
+  pub grown : repos_seen (arc_value plan.repos).items ≡ graphs p
+  -- what is to be done for each GIT range, by advisory, entry and range
+  pub todo : AllZip (IsTodoOf b p) (git_ranges_in p) plan.todo.items
+
+-- the plan is that of some build
+abbrev pub IsSomePlan : Plan → Type 0
+IsSomePlan plan = (b : List Past) × ((p : List Past) × IsPlanOf plan b p)

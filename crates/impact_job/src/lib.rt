@@ -4,9 +4,12 @@
 //! let mut prefix = Prefix::over(alloc, base);
 //! prefix.import(advisory)?;
 //! let plan = plan(alloc, &prefix)?;
+//! let tables = tables_of(alloc, &plan, steps)?;
 //! ```
 #![tactic(auto)]
 
+mod building;
+mod by_repo;
 mod latest;
 mod merge;
 mod planning;
@@ -14,8 +17,10 @@ mod prefix;
 mod repos;
 mod split;
 mod tables;
+mod todo;
 
+pub use building::tables_of;
 pub use planning::plan;
 pub use prefix::Prefix;
 pub use split::{Split, split_at_id};
-pub use tables::{Plan, Tables};
+pub use tables::{Plan, Tables, Todo, first_sets};

@@ -1,6 +1,6 @@
-ghost use Rattle.std.specs.Prelude.{◌≡◌, ◌++◌, [], map, IfOk, OnOk};
-ghost use Rattle.std.specs.Arc.{arc_value};
+ghost use Rattle.std.specs.Prelude.{◌≡◌, ◌++◌, [], IfOk, OnOk};
 ghost use Rattle.impact_job.specs.Tables.{repos_seen, with_graphs};
+ghost use Rattle.impact_job.specs.Walks.{entries_seen};
 
 use commit_graph::Graph;
 use indexmap::IndexMap;
@@ -8,16 +8,13 @@ use osv_prim::{Memory, RepoKey};
 use std::alloc::{AllocError, Global};
 use std::sync::Arc;
 
-/// The graphs of a base, each in place of that of its repository among those that grew, the last of them,
-/// and the new ones, by one look-up for each.
-pub(crate) fn repos_of(
+/// The graphs of a map by the keys of repositories.
+pub(crate) fn repos_of<'a>(
     alloc: Global,
-    base: &[(RepoKey, Arc<Graph>)],
-    grown: &[(RepoKey, Arc<Graph>)],
+    found: IndexMap<&'a RepoKey, &'a Arc<Graph>>,
 ) -> Result<Vec<(RepoKey, Arc<Graph>)>, Memory>
-    ensures { IfOk result (λ v. repos_seen v.items ≡ with_graphs [] (repos_seen base.now ++ repos_seen grown.now)) }
+    ensures { IfOk result (λ v. repos_seen v.items ≡ entries_seen found.entry.entries) }
 {
-    let found = by_key(alloc, base, grown)?;
     let entries = entries_of(alloc, found)?;
     copies_of(alloc, entries.as_slice())
 }
@@ -26,7 +23,7 @@ fn copies_of(
     alloc: Global,
     entries: &[(&RepoKey, &Arc<Graph>)],
 ) -> Result<Vec<(RepoKey, Arc<Graph>)>, Memory>
-    ensures { IfOk result (λ v. repos_seen v.items ≡ map (λ e. (e.0.now, arc_value e.1.now)) entries.now) }
+    ensures { IfOk result (λ v. repos_seen v.items ≡ entries_seen entries.now) }
 {
     let mut copies = Vec::with_capacity(alloc, entries.len())?;
     for (key, graph) in entries {
@@ -35,12 +32,14 @@ fn copies_of(
     Ok(copies)
 }
 
-fn by_key<'a>(
+/// The graphs of a base, each in place of that of its repository among those that grew, the last of them,
+/// and the new ones, by one look-up for each.
+pub(crate) fn by_key<'a>(
     alloc: Global,
     base: &'a [(RepoKey, Arc<Graph>)],
     grown: &'a [(RepoKey, Arc<Graph>)],
 ) -> Result<IndexMap<&'a RepoKey, &'a Arc<Graph>>, Memory>
-    ensures { IfOk result (λ m. map (λ e. (e.0.now, arc_value e.1.now)) m.entries ≡ with_graphs [] (repos_seen base.now ++ repos_seen grown.now)) }
+    ensures { IfOk result (λ m. entries_seen m.entries ≡ with_graphs [] (repos_seen base.now ++ repos_seen grown.now)) }
 {
     let mut found = IndexMap::with_capacity(alloc, base.len())?;
     put_each(&mut found, base)?;
@@ -52,7 +51,7 @@ fn put_each<'a>(
     found: &mut IndexMap<&'a RepoKey, &'a Arc<Graph>>,
     repos: &'a [(RepoKey, Arc<Graph>)],
 ) -> Result<(), Memory>
-    ensures { OnOk result (map (λ e. (e.0.now, arc_value e.1.now)) found.new.entries ≡ with_graphs (map (λ e. (e.0.now, arc_value e.1.now)) found.old.entries) (repos_seen repos.now)) }
+    ensures { OnOk result (entries_seen found.new.entries ≡ with_graphs (entries_seen found.old.entries) (repos_seen repos.now)) }
 {
     for (key, graph) in repos {
         found.insert(key, graph)?;

@@ -1,22 +1,46 @@
+ghost use Rattle.std.specs.Prelude.{List, ◌∷◌};
+ghost use Rattle.std.specs.List.{AllZip};
+ghost use Rattle.osv_record.specs.Advisories.{Advisory};
+ghost use Rattle.history.specs.declared.past.Past.{Past};
+ghost use Rattle.impact_job.specs.Tables.{AreSetsOf};
+
 use commit_graph::Graph;
-use osv_prim::RepoKey;
+use impact_set::ImpactSet;
+use osv_prim::{List, RepoKey};
 use osv_record::Record;
+use piece_work::Piece;
 use std::sync::Arc;
 
-/// What a snapshot keeps of its imports: the last import of each id, ascending by id, and the graph of
-/// each repository, by its first rows.
+/// What a snapshot keeps of its imports: the last import of each id, ascending by id, the graph of each
+/// repository, by its first rows, and for each of these advisories the sets of affected commits of its GIT
+/// ranges, by entry and range. A repository without rows has the empty graph.
 #[derive(Drop)]
 pub struct Tables {
     /// How many imports they are of.
     pub upto: u64,
-    pub records: Vec<Arc<Record>>,
-    pub repos: Vec<(RepoKey, Arc<Graph>)>,
+    pub records: Arc<Vec<Arc<Record>>>,
+    pub repos: Arc<Vec<(RepoKey, Arc<Graph>)>>,
+    pub sets: Vec<List<Arc<ImpactSet>>>,
 }
 
-/// What a build is to make, before its pieces. A plan has no pieces yet.
+/// What a build is to do for a GIT range.
+#[derive(Drop)]
+pub enum Todo {
+    /// Nothing: neither its advisory nor its repository came anew, and the set that it had stays.
+    Carried(Arc<ImpactSet>),
+    /// Its set is to be made anew, or to be extended.
+    Piece(Piece),
+}
+
+/// What a build is to make: the tables of its imports but for the sets, and what is to be done for each of
+/// these, by advisory, entry and range.
 #[derive(Drop)]
 pub struct Plan {
-    pub tables: Arc<Tables>,
+    /// How many imports it is of.
+    pub upto: u64,
+    pub records: Arc<Vec<Arc<Record>>>,
+    pub repos: Arc<Vec<(RepoKey, Arc<Graph>)>>,
+    pub todo: Vec<Todo>,
 }
 
 impl Plan {
@@ -27,6 +51,16 @@ impl Plan {
     pub fn upto(&self) -> u64
         ensures { result ≡ plan_upto self.now }
     {
-        self.tables.upto
+        self.upto
+    }
+}
+
+/// Of the sets of advisories those of the first one, and those of later ones.
+pub fn first_sets(sets: &[List<Arc<ImpactSet>>]) -> (&[Arc<ImpactSet>], &[List<Arc<ImpactSet>>])
+    ensures { (p : List Past) (r : Advisory) (more : List Advisory) → AllZip (AreSetsOf p) (r ∷ more) sets.now → AreSetsOf p r result.0.now × AllZip (AreSetsOf p) more result.1.now }
+{
+    match sets.split_first() {
+        None => (&[], sets),
+        Some((own, later)) => (own.as_slice(), later),
     }
 }

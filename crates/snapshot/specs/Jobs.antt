@@ -29,6 +29,10 @@ abbrev pub IsJob : Job → List Past → List Past → Type 0
 IsJob (to_do.Plan build prefix) b p = IsPrefixOf (arc_value prefix) b p
 IsJob (to_do.Assemble build plan) b p = IsPlanOf (arc_value plan) b p
 
+-- it is a job of some build
+abbrev pub IsSomeJob : Job → Type 0
+IsSomeJob job = (b : List Past) × ((p : List Past) × IsJob job b p)
+
 -- it is what such a job is to give
 abbrev pub IsDone : Finished → List Past → List Past → Type 0
 IsDone (done.Plan build plan) b p = IsPlanOf (arc_value plan) b p

@@ -16,4 +16,4 @@ snapshot_upto snapshot = (arc_value snapshot.tables).upto
 -- the snapshot is that of these imports: its tables are, and its index has their advisories under each package
 pub record StandsFor (snapshot : Snapshot) (p : List Past) : Type 0 where
   pub tables : tables.StandsFor (arc_value snapshot.tables) p
-  pub packages : (asked : PackageKey) → found snapshot.packages asked ≡ listed (seen (arc_value snapshot.tables).records.items) asked
+  pub packages : (asked : PackageKey) → found snapshot.packages asked ≡ listed (seen (arc_value (arc_value snapshot.tables).records).items) asked

@@ -1,14 +1,14 @@
 //! Immutable snapshots of imports, which answer queries, and the jobs that make them.
 //!
 //! ```
-//! let snapshot = assemble(alloc, &plan)?;
+//! let snapshot = assemble(alloc, &plan, steps)?;
 //! let page = snapshot.answer(alloc, &subject, None, 100, steps)?;
 //! let advisory = snapshot.find(&id);
 //! ```
 #![tactic(auto)]
 
 mod assembly;
-mod hit;
+mod commits;
 mod job;
 pub mod laws;
 mod packages;

@@ -1,7 +1,7 @@
 ghost use Rattle.std.specs.Prelude.{◌≡◌, ℕ, ◌+◌, ◌≤◌, List, [], ◌++◌, Bool, Option, IfOk, length, map, filter, option_map};
 ghost use Rattle.std.specs.Arc.{arc_value};
 ghost use Rattle.history.specs.declared.past.Past.{Past};
-ghost use Rattle.history.specs.Prefixes.{records};
+ghost use Rattle.history.specs.Prefixes.{records, graphs};
 ghost use Rattle.history.specs.Lookups.{record_of};
 ghost use Rattle.osv_prim.specs.declared.package.PackageKey.{PackageKey as Key};
 ghost use Rattle.osv_record.specs.Advisories.{Advisory};
@@ -10,14 +10,16 @@ ghost use Rattle.impact_job.specs.Tables as tables;
 ghost use Rattle.impact_job.specs.Order.{Ascend};
 ghost use Rattle.snapshot.specs.Snapshots.{StandsFor, snapshot_upto};
 ghost use Rattle.snapshot.specs.Pages.{is_above, cut, page, page_seen};
-ghost use Rattle.snapshot.specs.Subjects.{is_package_hit};
+ghost use Rattle.snapshot.specs.Subjects.{is_package_hit, is_commit_hit};
 
+use crate::commits::{first_commit_hits, last_sets};
 use crate::packages::{as_text, first_package_hits, from_index, index_of};
-use crate::page::{Page, first_hits};
+use crate::page::Page;
 use impact_job::{Tables, split_at_id};
-use osv_prim::{Id, Ledger, Memory, PackageKey, Steps, Subject};
+use osv_prim::{Id, Ledger, Memory, Oid, PackageKey, Steps, Subject};
 use osv_record::Record;
 use package_index::PackageIndex;
+use set_hits::places_of;
 use std::alloc::Global;
 use std::sync::Arc;
 
@@ -36,8 +38,9 @@ impl Snapshot {
     {
         let tables = Tables {
             upto: 0,
-            records: Vec::new(alloc),
-            repos: Vec::new(alloc),
+            records: Arc::new(alloc, Vec::new(alloc))?,
+            repos: Arc::new(alloc, Vec::new(alloc))?,
+            sets: Vec::new(alloc),
         };
         of_tables(alloc, Arc::new(alloc, tables)?)
     }
@@ -66,7 +69,7 @@ impl Snapshot {
     /// A page of hits: the first `size` of those whose ids are above `after`, or of all, ascending by id,
     /// and whether there are more. For a package it reads each advisory that is listed under it, with an id
     /// above `after`, once at most, and for a commit each advisory; it reads none behind the first hit that
-    /// the page doesn't have. Only memory can fail.
+    /// the page doesn't have. It takes no step through a graph. Only memory can fail.
     pub fn answer<L: Ledger>(
         &self,
         alloc: Global,
@@ -79,13 +82,16 @@ impl Snapshot {
         ensures records { (p : List Past) → StandsFor self.now p → steps.new.record_count ≤ steps.old.record_count + length (records p) }
         ensures listed { (p : List Past) (asked : Key) (version : Option (List ℕ)) → StandsFor self.now p → subject.now ≡ Subject.Package asked version
             → steps.new.record_count ≤ steps.old.record_count + length (listed (records p) asked) }
+        ensures graph { steps.new.graph ≡ steps.old.graph }
     {
         match subject {
             Subject::Package(asked, version) => {
                 self.by_package(alloc, asked, as_text(version), after, size, steps)
             }
-            Subject::Commit(_) => self.by_commit(alloc, subject, after, size, steps),
-            Subject::CommitIn(_, _) => self.by_commit(alloc, subject, after, size, steps),
+            Subject::Commit(commit) => self.by_commit(alloc, commit, None, after, size, steps),
+            Subject::CommitIn(commit, asked) => {
+                self.by_commit(alloc, commit, Some(asked), after, size, steps)
+            }
         }
     }
 
@@ -101,6 +107,7 @@ impl Snapshot {
     ) -> Result<Page, Memory>
         ensures page { (p : List Past) → StandsFor self.now p → IfOk result (λ found. page_seen found ≡ cut size (filter (is_above (option_map (λ id. id.now) after.entry)) (filter (is_package_hit asked.now (option_map (λ t. t.now) version.entry)) (records p)))) }
         ensures listed { (p : List Past) → StandsFor self.now p → steps.new.record_count ≤ steps.old.record_count + length (listed (records p) asked.now) }
+        ensures graph { steps.new.graph ≡ steps.old.graph }
     {
         let records = self.tables.records.as_slice();
         // Those above are the end of all.
@@ -111,27 +118,24 @@ impl Snapshot {
         first_package_hits(alloc, records, indexes, asked, version, size, steps)
     }
 
+    // The same for a commit, in entries of a package where one is asked for.
     fn by_commit<L: Ledger>(
         &self,
         alloc: Global,
-        subject: &Subject,
+        commit: &Oid,
+        asked: Option<&PackageKey>,
         after: Option<&Id>,
         size: u32,
         steps: &mut Steps<L>,
     ) -> Result<Page, Memory>
-        ensures page { (p : List Past) → StandsFor self.now p → IfOk result (λ found. page_seen found ≡ page p subject.now (option_map (λ id. id.now) after.entry) size) }
+        ensures page { (p : List Past) → StandsFor self.now p → IfOk result (λ found. page_seen found ≡ cut size (filter (is_above (option_map (λ id. id.now) after.entry)) (filter (is_commit_hit (graphs p) commit.now (option_map (λ k. k.now) asked.entry)) (records p)))) }
         ensures records { (p : List Past) → StandsFor self.now p → steps.new.record_count ≤ steps.old.record_count + length (records p) }
+        ensures graph { steps.new.graph ≡ steps.old.graph }
     {
-        let records = self.tables.records.as_slice();
-        let repos = self.tables.repos.as_slice();
-        first_hits(
-            alloc,
-            all_above(records, after),
-            repos,
-            subject,
-            size,
-            steps,
-        )
+        let last = all_above(self.tables.records.as_slice(), after);
+        let sets = last_sets(self.tables.sets.as_slice(), last.len());
+        let places = places_of(alloc, self.tables.repos.as_slice(), commit)?;
+        first_commit_hits(alloc, last, sets, places.as_slice(), asked, size, steps)
     }
 }
 

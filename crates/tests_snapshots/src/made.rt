@@ -1,3 +1,9 @@
+ghost use Rattle.std.specs.Prelude.{List, IfOk};
+ghost use Rattle.std.specs.Arc.{arc_value};
+ghost use Rattle.history.specs.declared.past.Past.{Past};
+ghost use Rattle.impact_job.specs.Tables.{IsPrefixOf};
+ghost use Rattle.snapshot.specs.Snapshots.{StandsFor};
+
 use gate::OpenGate;
 use impact_job::Prefix;
 use osv_prim::{Ledger, Memory, Steps};
@@ -6,18 +12,22 @@ use snapshot::{Finished, Job, Snapshot, do_job};
 use std::alloc::Global;
 use std::sync::Arc;
 
-/// The newest snapshot, and what was imported since.
+/// The newest snapshot, all imports, and how many of them each snapshot added.
 #[derive(Drop)]
 pub struct Store {
     pub snapshot: Arc<Snapshot>,
-    added: Vec<Arc<Record>>,
+    imports: Vec<Arc<Record>>,
+    counts: Vec<usize>,
+    waiting: usize,
 }
 
 impl Store {
     pub fn new(alloc: Global) -> Result<Store, Memory> {
         Ok(Store {
             snapshot: Arc::new(alloc, Snapshot::empty(alloc)?)?,
-            added: Vec::new(alloc),
+            imports: Vec::new(alloc),
+            counts: Vec::new(alloc),
+            waiting: 0,
         })
     }
 
@@ -26,42 +36,84 @@ impl Store {
         let Ok(record) = Record::read(alloc, json.as_bytes()) else {
             return Ok(String::from_str(alloc, "not read")?);
         };
-        self.added.push(Arc::new(alloc, record)?)?;
+        self.imports.push(Arc::new(alloc, record)?)?;
+        self.waiting = self.waiting.saturating_add(1);
         Ok(String::from_str(alloc, "imported")?)
     }
 
-    /// Makes the next snapshot by its jobs.
+    /// Makes the next snapshot by its jobs, and those before it once more.
     pub fn publish<L: Ledger>(
         &mut self,
         alloc: Global,
         steps: &mut Steps<L>,
     ) -> Result<String, Memory> {
-        let prefix = prefix_of(alloc, &self.snapshot, self.added.as_slice())?;
-        self.snapshot = built(alloc, prefix, steps)?;
-        self.added.clear();
-        let upto = self.snapshot.upto();
-        let kept = self.snapshot.tables().records.len();
+        self.counts.push(self.waiting)?;
+        self.waiting = 0;
+        let (imports, counts) = (self.imports.as_slice(), self.counts.as_slice());
+        let snapshot = last_of(alloc, imports, counts, steps)?;
+        let upto = snapshot.upto();
+        let kept = snapshot.tables().records.len();
+        self.snapshot = snapshot;
         Ok(format!(in alloc; "{upto} imports, {kept} advisories")?)
     }
+}
+
+// The snapshot of all imports, each made from the one before and so many more.
+fn last_of<L: Ledger>(
+    alloc: Global,
+    imports: &[Arc<Record>],
+    counts: &[usize],
+    steps: &mut Steps<L>,
+) -> Result<Arc<Snapshot>, Memory> {
+    let mut snapshot = first(alloc)?;
+    let mut rest = imports;
+    for count in counts {
+        let (added, later) = rest.split_at((*count).min(rest.len()));
+        snapshot = built(alloc, prefix_of(alloc, &snapshot, added)?, steps)?;
+        rest = later;
+    }
+    Ok(snapshot)
+}
+
+fn first(alloc: Global) -> Result<Arc<Snapshot>, Memory>
+    ensures { IfOk result (λ s. (p : List Past) × StandsFor (arc_value s) p) }
+{
+    Ok(Arc::new(alloc, Snapshot::empty(alloc)?)?)
 }
 
 fn prefix_of(
     alloc: Global,
     snapshot: &Snapshot,
     added: &[Arc<Record>],
-) -> Result<Arc<Prefix>, Memory> {
-    let mut prefix = Prefix::over(alloc, Arc::try_clone(snapshot.tables())?);
-    for advisory in added {
-        prefix.import(Arc::try_clone(advisory)?)?;
-    }
+) -> Result<Arc<Prefix>, Memory>
+    requires { (b : List Past) × StandsFor snapshot.now b }
+    ensures { IfOk result (λ x. (b : List Past) × ((p : List Past) × IsPrefixOf (arc_value x) b p)) }
+{
+    let prefix = with_each(
+        Prefix::over(alloc, Arc::try_clone(snapshot.tables())?),
+        added,
+    )?;
     Ok(Arc::new(alloc, prefix)?)
+}
+
+fn with_each(prefix: Prefix, added: &[Arc<Record>]) -> Result<Prefix, Memory>
+    ensures { (b p : List Past) → IsPrefixOf prefix b p → IfOk result (λ x. (q : List Past) × IsPrefixOf x b q) }
+{
+    let mut longer = prefix;
+    for advisory in added {
+        longer.import(Arc::try_clone(advisory)?)?;
+    }
+    Ok(longer)
 }
 
 fn built<L: Ledger>(
     alloc: Global,
     prefix: Arc<Prefix>,
     steps: &mut Steps<L>,
-) -> Result<Arc<Snapshot>, Memory> {
+) -> Result<Arc<Snapshot>, Memory>
+    requires { (b : List Past) × ((p : List Past) × IsPrefixOf (arc_value prefix) b p) }
+    ensures { IfOk result (λ s. (p : List Past) × StandsFor (arc_value s) p) }
+{
     let plan = match do_job(alloc, Job::Plan { build: 1, prefix }, &OpenGate, steps) {
         Ok(Finished::Plan { plan, .. }) => plan,
         _ => return Err(Memory),

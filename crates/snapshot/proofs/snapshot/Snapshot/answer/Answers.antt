@@ -35,3 +35,13 @@ returns-in-Commit-clause-listed g c = λ p asked version s is. absurd (let other
 
 pub returns-in-CommitIn-clause-listed : goal.returns-in-CommitIn-clause-listed
 returns-in-CommitIn-clause-listed g c = λ p asked version s is. absurd (let other = sym c.in-CommitIn.is ∙ is in cc)
+
+pub returns-in-Commit-clause-page : goal.returns-in-Commit-clause-page
+returns-in-Commit-clause-page g c = λ p s.
+    let after : Option (List ℕ) = option_map (λ id. id.now) c.args.after in
+    subst (λ (x : Subject). IfOk c.by_commit.result (λ found. page_seen found ≡ page p x after c.args.size)) (sym c.in-Commit.is) (c.by_commit.ensures.page p s)
+
+pub returns-in-CommitIn-clause-page : goal.returns-in-CommitIn-clause-page
+returns-in-CommitIn-clause-page g c = λ p s.
+    let after : Option (List ℕ) = option_map (λ id. id.now) c.args.after in
+    subst (λ (x : Subject). IfOk c.by_commit-in-CommitIn.result (λ found. page_seen found ≡ page p x after c.args.size)) (sym c.in-CommitIn.is) (c.by_commit-in-CommitIn.ensures.page p s)

@@ -1,6 +1,7 @@
 use Rattle.std.proofs.Common.{◌≡◌, ℕ, ◌<◌, ◌++◌, leb, List, All, arith, length, map, get_or, sym, ap, subst, ◌∙◌, length-append}
 use Rattle.std.specs.Prelude.{Option, option_map, filter}
 use Rattle.std.specs.Arc.{arc_value}
+use Rattle.std.specs.declared.vec.Vec.{Vec}
 use Rattle.std.specs.List.Sorted.{IsStrictlySortedBy}
 use Rattle.std.specs.Ordering.{nat_cmp}
 use Rattle.std.proofs.lemmas.List.{length-map}
@@ -24,14 +25,14 @@ returns-clause-page g c = λ p s.
     let after : Option (List ℕ) = option_map (λ id. id.now) c.args.after in
     let all : List Advisory = map (λ a. arc_value a) c.as_slice-records.result.now in
     let above : List Advisory = map (λ a. arc_value a) c.all_above.result.now in
-    let kept : all ≡ records p = ap (map (λ a. arc_value a)) (c.as_slice-records.ensures.value ∙ ap (λ (t : Tables). t.records.items) c.deref.ensures) ∙ s.tables.kept in
+    let kept : all ≡ records p = ap (map (λ a. arc_value a)) (c.as_slice-records.ensures.value ∙ ap (λ (v : Vec _ _). v.items) (c.deref-2.ensures ∙ ap (λ (t : Tables). arc_value t.records) c.deref.ensures)) ∙ s.tables.kept in
     let up : Ascend all = subst (λ (ys : List Advisory). Ascend ys) (sym kept) (kept-ascend p) in
     let front = (c.all_above.ensures.last up).0 in
     let whole : all ≡ front ++ above = (c.all_above.ensures.last up).1 in
     let long = ap (λ (ys : List Advisory). length ys) whole ∙ length-append front above in
     let start : c.saturating_sub-start.result ≡ length front = omega (arith, c.saturating_sub-start.ensures, long, length-map c.as_slice-records.result.now (λ a. arc_value a), length-map c.all_above.result.now (λ a. arc_value a)) in
     let here : c.listed.result.now ≡ listed all asked =
-    c.listed.ensures ∙ s.packages asked ∙ ap (λ (ys : List Advisory). listed ys asked) (sym (ap (map (λ a. arc_value a)) (c.as_slice-records.ensures.value ∙ ap (λ (t : Tables). t.records.items) c.deref.ensures))) in
+    c.listed.ensures ∙ s.packages asked ∙ ap (λ (ys : List Advisory). listed ys asked) (sym (ap (map (λ a. arc_value a)) (c.as_slice-records.ensures.value ∙ ap (λ (v : Vec _ _). v.items) (c.deref-2.ensures ∙ ap (λ (t : Tables). arc_value t.records) c.deref.ensures)))) in
     let rising = subst (λ (is : List ℕ). IsStrictlySortedBy nat_cmp is) (sym here) (listed-rising 0 all asked) in
     let indexes : c.from_index-indexes.result.now ≡ filter (λ i. leb (length front) i) (listed all asked) =
     c.from_index-indexes.ensures rising ∙ ap (filter (λ i. leb c.saturating_sub-start.result i)) here ∙ ap (λ (n : ℕ). filter (λ i. leb n i) (listed all asked)) start in
@@ -48,14 +49,14 @@ returns-clause-listed g c = λ p s.
     let after : Option (List ℕ) = option_map (λ id. id.now) c.args.after in
     let all : List Advisory = map (λ a. arc_value a) c.as_slice-records.result.now in
     let above : List Advisory = map (λ a. arc_value a) c.all_above.result.now in
-    let kept : all ≡ records p = ap (map (λ a. arc_value a)) (c.as_slice-records.ensures.value ∙ ap (λ (t : Tables). t.records.items) c.deref.ensures) ∙ s.tables.kept in
+    let kept : all ≡ records p = ap (map (λ a. arc_value a)) (c.as_slice-records.ensures.value ∙ ap (λ (v : Vec _ _). v.items) (c.deref-2.ensures ∙ ap (λ (t : Tables). arc_value t.records) c.deref.ensures)) ∙ s.tables.kept in
     let up : Ascend all = subst (λ (ys : List Advisory). Ascend ys) (sym kept) (kept-ascend p) in
     let front = (c.all_above.ensures.last up).0 in
     let whole : all ≡ front ++ above = (c.all_above.ensures.last up).1 in
     let long = ap (λ (ys : List Advisory). length ys) whole ∙ length-append front above in
     let start : c.saturating_sub-start.result ≡ length front = omega (arith, c.saturating_sub-start.ensures, long, length-map c.as_slice-records.result.now (λ a. arc_value a), length-map c.all_above.result.now (λ a. arc_value a)) in
     let here : c.listed.result.now ≡ listed all asked =
-    c.listed.ensures ∙ s.packages asked ∙ ap (λ (ys : List Advisory). listed ys asked) (sym (ap (map (λ a. arc_value a)) (c.as_slice-records.ensures.value ∙ ap (λ (t : Tables). t.records.items) c.deref.ensures))) in
+    c.listed.ensures ∙ s.packages asked ∙ ap (λ (ys : List Advisory). listed ys asked) (sym (ap (map (λ a. arc_value a)) (c.as_slice-records.ensures.value ∙ ap (λ (v : Vec _ _). v.items) (c.deref-2.ensures ∙ ap (λ (t : Tables). arc_value t.records) c.deref.ensures)))) in
     let rising = subst (λ (is : List ℕ). IsStrictlySortedBy nat_cmp is) (sym here) (listed-rising 0 all asked) in
     let indexes : c.from_index-indexes.result.now ≡ filter (λ i. leb (length front) i) (listed all asked) =
     c.from_index-indexes.ensures rising ∙ ap (filter (λ i. leb c.saturating_sub-start.result i)) here ∙ ap (λ (n : ℕ). filter (λ i. leb n i) (listed all asked)) start in
