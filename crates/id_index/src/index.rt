@@ -1,4 +1,4 @@
-ghost use Rattle.std.specs.Prelude.{◌≡◌, ◌≤◌, length, map, option_map, IfOk, nat_lt, nat_le, true, false};
+ghost use Rattle.std.specs.Prelude.{◌≡◌, ◌≤◌, length, drop, take, map, option_map, IfOk, nat_lt, nat_le, true, false};
 ghost use Rattle.std.specs.Arc.{arc_value};
 ghost use Rattle.std.specs.List.Sorted.{IsNonDecreasing, IsPartitionPoint};
 ghost use Rattle.impact_job.specs.Order.{Ascend};
@@ -46,16 +46,36 @@ impl IdIndex {
     /// only where they begin with the same sixteen bytes. The advisories are those that the index is of, and
     /// have to ascend by their ids.
     pub fn find<'a>(&self, records: &'a [Arc<Record>], id: &[u8]) -> Option<&'a Arc<Record>>
-        requires { IsIndexOf self.now (map (λ a. arc_value a) records.now) }
-        ensures { Ascend (map (λ a. arc_value a) records.now) → IsFoundIn id.now (map (λ a. arc_value a) records.now) (option_map (λ a. arc_value a.now) result) }
+        ensures { IsIndexOf self.now (map (λ a. arc_value a) records.now) → Ascend (map (λ a. arc_value a) records.now)
+            → IsFoundIn id.now (map (λ a. arc_value a) records.now) (option_map (λ a. arc_value a.now) result) }
     {
         let heads = self.heads.as_slice();
         let wanted = head(id);
         let start = count_below(heads, wanted);
         let (_, later_heads) = heads.split_at(start);
-        let (_, later) = records.split_at(start);
-        let (same, _) = later.split_at(count_upto(later_heads, wanted));
+        let later = behind(records, start);
+        let same = first(later, count_upto(later_heads, wanted));
         split_at_id(same, id).found
+    }
+}
+
+// The advisories behind the first so many.
+fn behind(records: &[Arc<Record>], count: usize) -> &[Arc<Record>]
+    ensures { result.now ≡ drop count records.now }
+{
+    match records.split_at_checked(count) {
+        Some((_, later)) => later,
+        None => &[],
+    }
+}
+
+// The first so many advisories, or all.
+fn first(records: &[Arc<Record>], count: usize) -> &[Arc<Record>]
+    ensures { result.now ≡ take count records.now }
+{
+    match records.split_at_checked(count) {
+        Some((first, _)) => first,
+        None => records,
     }
 }
 

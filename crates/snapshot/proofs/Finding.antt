@@ -9,6 +9,7 @@ use Rattle.history.specs.Prefixes.{records}
 use Rattle.history.specs.Lookups.{with_id, record_of}
 use Rattle.evaluate.proofs.Ascending.{by_id, turned, Below}
 use Rattle.impact_job.specs.Order.{Ascend, IsSplit}
+use Rattle.id_index.specs.Found.{IsFoundIn}
 use Rattle.impact_job.proofs.Parting.{Under}
 use Rattle.impact_job.proofs.Merging.{itself}
 use Rattle.impact_job.proofs.Prefixes.{kept-ascend}
@@ -38,7 +39,8 @@ pub found-is : (id : List ℕ) (xs below : List Advisory) (found : Option Adviso
 found-is id xs below found above s =
     sym (at_rest id found above s.same s.over) ∙ sym (over_below id below (option_to_list found ++ above) s.under) ∙ ap (λ (ys : List Advisory). with_id id ys) (sym s.whole)
 
-pub found-in : {A : Type 0} (see : A → Advisory) (xs : List A) (p : List Past) (id : List ℕ) (below : List Advisory) (found : Option Advisory) (above : List Advisory) → map see xs ≡ records p
-    → (Ascend (map see xs) → IsSplit id (map see xs) below found above) → found ≡ record_of p id
-found-in see xs p id below found above kept split =
-    found-is id (map see xs) below found above (split (subst (λ (ys : List Advisory). Ascend ys) (sym kept) (kept-ascend p))) ∙ ap (λ (ys : List Advisory). with_id id ys) kept
+pub found-in : {A : Type 0} (see : A → Advisory) (xs : List A) (p : List Past) (id : List ℕ) (found : Option Advisory) → map see xs ≡ records p
+    → (Ascend (map see xs) → IsFoundIn id (map see xs) found) → found ≡ record_of p id
+found-in see xs p id found kept is =
+    let f = is (subst (λ (ys : List Advisory). Ascend ys) (sym kept) (kept-ascend p)) in
+    found-is id (map see xs) f.below found f.above f.split ∙ ap (λ (ys : List Advisory). with_id id ys) kept

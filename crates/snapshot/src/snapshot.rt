@@ -15,6 +15,7 @@ ghost use Rattle.snapshot.specs.Subjects.{is_package_hit, is_commit_hit};
 use crate::commits::{first_commit_hits, last_sets};
 use crate::packages::{as_text, first_package_hits, from_index, index_of};
 use crate::page::Page;
+use id_index::IdIndex;
 use impact_job::{Tables, split_at_id};
 use osv_prim::{Id, Ledger, Memory, Oid, PackageKey, Steps, Subject};
 use osv_record::Record;
@@ -29,6 +30,8 @@ pub struct Snapshot {
     pub(crate) tables: Arc<Tables>,
     // The advisories of each package, by their indexes in the tables.
     pub(crate) packages: PackageIndex,
+    // The advisory of each id, by its place in the tables.
+    pub(crate) ids: IdIndex,
 }
 
 impl Snapshot {
@@ -63,7 +66,7 @@ impl Snapshot {
     pub fn find(&self, id: &[u8]) -> Option<&Arc<Record>>
         ensures { (p : List Past) → StandsFor self.now p → option_map (λ a. arc_value a.now) result ≡ record_of p id.now }
     {
-        split_at_id(self.tables.records.as_slice(), id).found
+        self.ids.find(self.tables.records.as_slice(), id)
     }
 
     /// A page of hits: the first `size` of those whose ids are above `after`, or of all, ascending by id,
@@ -145,9 +148,11 @@ pub(crate) fn of_tables(alloc: Global, kept: Arc<Tables>) -> Result<Snapshot, Me
     ensures upto { IfOk result (λ s. snapshot_upto s ≡ (arc_value kept).upto) }
 {
     let packages = index_of(alloc, kept.records.as_slice())?;
+    let ids = IdIndex::build(alloc, kept.records.as_slice())?;
     Ok(Snapshot {
         tables: kept,
         packages,
+        ids,
     })
 }
 
