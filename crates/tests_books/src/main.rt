@@ -1,9 +1,10 @@
 //! Reads a call a line and prints what it answers, for a caller alone with a book of two snapshots and 810
-//! bytes, whose pages are larger than a service's.
+//! bytes, whose pages are larger than a service's; the line `large` goes on with a new book of 1,000,000 bytes.
 #![tactic(auto)]
 
 mod graphs;
 mod jobs;
+mod plans;
 mod shown;
 
 ghost use Rattle.std.specs.Prelude.{◌≡◌, ◌≤◌};
@@ -48,6 +49,7 @@ fn answer<D: Desk, L: Ledger>(
         "grow" => graphs::grown(alloc, desk, rest, steps),
         "anew" => graphs::made_anew(alloc, desk, rest, steps),
         "pull" => jobs::pulled(alloc, desk),
+        "plan" => plans::planned(alloc, desk),
         "take" => jobs::taken(alloc, desk),
         "publish" => jobs::published(alloc, desk, steps),
         "look" => shown::looked(alloc, desk, rest),
@@ -55,21 +57,38 @@ fn answer<D: Desk, L: Ledger>(
     }
 }
 
-fn answer_all<L: Ledger>(rt: &HostRuntime, blank: Blank) -> io::Result<()>
-    requires name { blank.name ≡ L.name }
-    requires parts { blank.parts ≡ L.parts }
-    requires two { 2 ≤ blank.parts }
-{
+fn small_book(alloc: Global) -> Result<OwnDesk, Memory> {
     let settings = Settings {
         keep: 2,
         page: 2_000,
         weight: 810,
         ..Settings::default()
     };
+    OwnDesk::new(alloc, settings)
+}
+
+fn large_book(alloc: Global) -> Result<OwnDesk, Memory> {
+    let settings = Settings {
+        keep: 2,
+        page: 2_000,
+        weight: 1_000_000,
+        ..Settings::default()
+    };
+    OwnDesk::new(alloc, settings)
+}
+
+fn answer_all<L: Ledger>(rt: &HostRuntime, blank: Blank) -> io::Result<()>
+    requires name { blank.name ≡ L.name }
+    requires parts { blank.parts ≡ L.parts }
+    requires two { 2 ≤ blank.parts }
+{
     let mut steps = Steps::<L>::start(rt, blank);
-    let mut desk = OwnDesk::new(rt.alloc(), settings).map_err(no_memory)?;
+    let mut desk = small_book(rt.alloc()).map_err(no_memory)?;
     for line in rt.lines(rt.alloc()) {
         let line = line?;
+        if line.as_str() == "large" {
+            desk = large_book(rt.alloc()).map_err(no_memory)?;
+        }
         let text = answer(rt.alloc(), &mut desk, line.as_str(), &mut steps).map_err(no_memory)?;
         println!(rt; "{text}")?;
     }
