@@ -25,7 +25,7 @@ pub(crate) struct Link<'a, R: Clock> {
 }
 
 // How many milliseconds the client has to close its side once ours is closed.
-const LINGER_MILLIS: u64 = 500;
+const LINGER_MILLIS: u64 = 250;
 
 // How many reads of what it still sends are made meanwhile, and how many bytes each takes.
 const LINGER_READS: u32 = 256;
@@ -64,7 +64,7 @@ impl<'a, R: Clock> Link<'a, R> {
         Err(io::Error::from(ErrorKind::Interrupted))
     }
 
-    /// Writes for at most as long as is left of the allowance.
+    /// Writes for at most as long as is left of the allowance. A piece that was taken whole gives a new one.
     pub(crate) fn write(&self, piece: &[u8]) -> io::Result<usize>
         ensures { WritesAtMost result piece.now }
     {
@@ -73,6 +73,9 @@ impl<'a, R: Clock> Link<'a, R> {
             let start = Instant::now(self.clock)?;
             let res = (&self.stream).write(piece);
             self.spend(start.elapsed(self.clock)?, &res);
+            if is_whole(&res, piece.len()) {
+                self.renew();
+            }
             if !is_cut_off(&res) {
                 return res;
             }
@@ -83,14 +86,18 @@ impl<'a, R: Clock> Link<'a, R> {
     // What is left for bytes that go this way, which begins anew where the last ones went the other way.
     fn left(&self, is_writing: bool) -> io::Result<Duration> {
         if self.is_writing.swap(is_writing, Ordering::SeqCst) != is_writing {
-            self.waited.store(0, Ordering::SeqCst);
-            self.moved.store(0, Ordering::SeqCst);
+            self.renew();
         }
         let left = self.spent().left();
         if left.is_zero() {
             return Err(io::Error::from(ErrorKind::TimedOut));
         }
         Ok(left)
+    }
+
+    fn renew(&self) {
+        self.waited.store(0, Ordering::SeqCst);
+        self.moved.store(0, Ordering::SeqCst);
     }
 
     fn spent(&self) -> Allowance {
@@ -162,6 +169,13 @@ fn linger<R: Clock>(clock: &R, stream: &TcpStream) -> io::Result<()> {
         }
     }
     Ok(())
+}
+
+fn is_whole(res: &io::Result<usize>, len: usize) -> bool {
+    match res {
+        Ok(count) => *count == len,
+        Err(_) => false,
+    }
 }
 
 fn is_cut_off(res: &io::Result<usize>) -> bool {
