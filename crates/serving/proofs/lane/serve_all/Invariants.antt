@@ -1,0 +1,12 @@
+use Rattle.std.proofs.Common.{◌≡◌, ◌≤◌, ◌<◌}
+use Rattle.serving.specs.Serving.{RoseBy}
+use Rattle.serving.proofs.lane.serve_all.Given as goal
+
+-- so many accepts failed, and the listener's counts show it
+abbrev pub invariant-loop : goal.invariant-loop
+invariant-loop g l = record {
+  same : (g.D.Desk.caller l.desk).settings ≡ l.settings;
+  few : l.failed < 100;
+  faults : RoseBy l.failed (g.L.Listener.faults l.initial.listener) (g.L.Listener.faults l.listener);
+  closed : g.L.Listener.closed l.initial.listener ≤ g.L.Listener.closed l.listener;
+}
