@@ -1,15 +1,30 @@
 """A kept connection to the service, with requests one behind the other; the clients import it, and it does nothing alone."""
+import functools
 import re
 import socket
-import ssl
 from urllib.parse import urlsplit
 
 HEAD = re.compile(rb"HTTP/1\.1 (\d{3}) [^\r\n]*\r\n((?:[^\r\n]+\r\n)*)\r\n")
+END = b"\r\n\r\n"
 MOST_HEAD = 65_536
 
 
 class Lost(Exception):
     """The service can't be reached, or the connection ended before the reply that was due."""
+
+
+@functools.lru_cache(maxsize=256)
+def head_of(text):
+    """The status, the fields and the length of the body that a head tells."""
+    found = HEAD.fullmatch(text)
+    if not found:
+        raise Lost("what answers is no such service")
+    fields = dict(line.split(b":", 1) for line in found[2].lower().splitlines() if b":" in line)
+    fields = {name: value.strip() for name, value in fields.items()}
+    status, length = int(found[1]), fields.get(b"content-length", b"0" if found[1] == b"100" else b"")
+    if not length.isdigit():
+        raise Lost("what answers is no such service")
+    return status, fields, int(length)
 
 
 class Reply:
@@ -36,7 +51,8 @@ class Connection:
             raise ValueError(f"{url} is no address of a service, as http://127.0.0.1:8080")
         self.host, self.secure = parts.netloc, parts.scheme == "https"
         self.address = (parts.hostname, parts.port or (443 if self.secure else 80))
-        self.patience, self.socket, self.held, self.sent = patience, None, b"", 0
+        # Of what came, the bytes from here on are unread.
+        self.patience, self.socket, self.held, self.at, self.sent = patience, None, b"", 0, 0
 
     def open(self):
         """A new connection, where there is none."""
@@ -45,12 +61,13 @@ class Connection:
         try:
             self.socket = socket.create_connection(self.address, self.patience)
             if self.secure:
+                import ssl  # Here alone: it takes as long to load as all else.
                 self.socket = ssl.create_default_context().wrap_socket(self.socket, server_hostname=self.address[0])
             self.socket.setsockopt(socket.IPPROTO_TCP, socket.TCP_NODELAY, 1)
         except OSError as error:
             self.close()
             raise Lost(f"no connection to {self.address[0]}:{self.address[1]}: {error}")
-        self.held, self.sent = b"", 0
+        self.held, self.at, self.sent = b"", 0, 0
 
     def close(self):
         if self.socket:
@@ -78,26 +95,23 @@ class Connection:
             raise Lost(f"the connection was lost: {error}")
         if not piece:
             raise Lost("the service closed the connection")
-        self.held += piece
+        self.held, self.at = self.held[self.at:] + piece, 0
 
     def reply(self):
         """The next reply; one that asks for close is the last of its connection."""
-        while not (head := HEAD.match(self.held)) or head[1] == b"100":
-            if head:
-                self.held = self.held[head.end():]
-                continue
-            if len(self.held) > MOST_HEAD:
-                raise Lost("what answers is no such service")
+        status = 100
+        while status == 100:
+            while (end := self.held.find(END, self.at)) < 0:
+                if len(self.held) - self.at > MOST_HEAD:
+                    raise Lost("what answers is no such service")
+                self.more()
+            end += len(END)
+            status, fields, length = head_of(self.held[self.at:end])
+            self.at = end
+        while len(self.held) < self.at + length:
             self.more()
-        fields = dict(line.split(b":", 1) for line in head[2].lower().splitlines())
-        fields = {name: value.strip() for name, value in fields.items()}
-        if not fields.get(b"content-length", b"").isdigit():
-            raise Lost("what answers is no such service")
-        end = head.end() + int(fields[b"content-length"])
-        while len(self.held) < end:
-            self.more()
-        body, self.held = self.held[head.end():end], self.held[end:]
-        found = Reply(int(head[1]), fields, body)
+        found = Reply(status, fields, self.held[self.at:self.at + length])
+        self.at += length
         if found.closes():
             self.close()
         return found
