@@ -3,7 +3,7 @@
 use crate::query::{is_id, percent_decoded, read_batch, read_query, Query};
 use std::collections::{HashMap, VecDeque};
 use std::io::Write as _;
-use std::rc::Rc;
+use std::sync::{Arc, Mutex, RwLock, RwLockReadGuard};
 use twin::advisory::Advisory;
 use twin::version::Version;
 use wire_twin::Request;
@@ -34,15 +34,22 @@ pub struct Answer {
     pub body: Vec<u8>,
 }
 
-pub struct Service {
-    settings: Settings,
+/// What was imported and published so far.
+struct State {
     entries: u64,
     used: u64,
     imports: Vec<&'static Stored>,
     published: usize,
     newest: u64,
     /// The snapshots that are kept, the newest last.
-    kept: VecDeque<Rc<Snapshot>>,
+    kept: VecDeque<Arc<Snapshot>>,
+}
+
+pub struct Service {
+    settings: Settings,
+    state: RwLock<State>,
+    /// Held while a snapshot is made, which no query waits for.
+    publishing: Mutex<()>,
 }
 
 type Refusal = Answer;
@@ -114,11 +121,12 @@ impl Snapshot {
 
 impl Service {
     pub fn new(settings: Settings) -> Service {
-        let kept = VecDeque::from([Rc::default()]);
-        Service { settings, entries: 0, used: 0, imports: Vec::new(), published: 0, newest: 0, kept }
+        let kept = VecDeque::from([Arc::default()]);
+        let state = State { entries: 0, used: 0, imports: Vec::new(), published: 0, newest: 0, kept };
+        Service { settings, state: RwLock::new(state), publishing: Mutex::new(()) }
     }
 
-    pub fn answer(&mut self, request: Request) -> Answer {
+    pub fn answer(&self, request: Request) -> Answer {
         let path = request.path.as_str();
         let allowed = match path {
             "/v1/query" | "/v1/querybatch" | "/x/import" | "/x/publish" => "POST",
@@ -145,72 +153,58 @@ impl Service {
         answered.unwrap_or_else(|refusal| refusal)
     }
 
-    fn import(&mut self, body: Vec<u8>) -> Answer {
+    fn state(&self) -> RwLockReadGuard<'_, State> {
+        self.state.read().unwrap_or_else(|held| held.into_inner())
+    }
+
+    fn import(&self, body: Vec<u8>) -> Answer {
         let text: &'static [u8] = Box::leak(body.into_boxed_slice());
+        let free = || drop(unsafe { Box::from_raw(text as *const [u8] as *mut [u8]) });
         let read = match Advisory::read(text) {
             Ok(read) => read,
             Err(fault) => {
                 // Nothing refers to the bytes any more.
-                drop(unsafe { Box::from_raw(text as *const [u8] as *mut [u8]) });
+                free();
                 return refused(400, 12, &format!("record refused: {fault}"));
             }
         };
         let weight = 64 + text.len() as u64 + 64 * read.git_ranges() as u64;
-        if self.used + weight > self.settings.weight {
-            let (used, limit) = (self.used, self.settings.weight);
-            return refused(507, 20, &format!("journal full, used {used} limit {limit}"));
+        let stored = Box::leak(Box::new(Stored { text, read }));
+        let mut state = self.state.write().unwrap_or_else(|held| held.into_inner());
+        if state.used + weight > self.settings.weight {
+            return refused(507, 20, &format!("journal full, used {} limit {}", state.used, self.settings.weight));
         }
-        self.used += weight;
-        self.imports.push(Box::leak(Box::new(Stored { text, read })));
-        self.entries += 1;
-        done(format!("{{\"entry\":{}}}", self.entries - 1))
+        state.used += weight;
+        state.imports.push(stored);
+        state.entries += 1;
+        done(format!("{{\"entry\":{}}}", state.entries - 1))
     }
 
-    fn publish(&mut self) -> Answer {
-        if self.published < self.imports.len() {
-            let mut next = Snapshot::clone(self.last());
-            for stored in &self.imports[self.published..] {
+    fn publish(&self) -> Answer {
+        let _turn = self.publishing.lock().unwrap_or_else(|held| held.into_inner());
+        let (last, more) = {
+            let state = self.state();
+            (Arc::clone(state.last()), state.imports[state.published..].to_vec())
+        };
+        if !more.is_empty() {
+            let mut next = Snapshot::clone(&last);
+            for stored in &more {
                 next.add(stored);
             }
-            self.published = self.imports.len();
-            self.newest += 1;
-            self.entries += 1;
-            self.kept.push_back(Rc::new(next));
-            if self.kept.len() as u64 > self.settings.keep {
-                self.kept.pop_front();
+            let mut state = self.state.write().unwrap_or_else(|held| held.into_inner());
+            state.published += more.len();
+            state.newest += 1;
+            state.entries += 1;
+            state.kept.push_back(Arc::new(next));
+            if state.kept.len() as u64 > self.settings.keep {
+                state.kept.pop_front();
             }
         }
-        done(format!("{{\"state\":\"published\",\"snapshot\":{},\"upto\":{}}}", self.newest, self.published))
+        let state = self.state();
+        done(format!("{{\"state\":\"published\",\"snapshot\":{},\"upto\":{}}}", state.newest, state.published))
     }
 
-    fn last(&self) -> &Rc<Snapshot> {
-        &self.kept[self.kept.len() - 1]
-    }
-
-    fn oldest(&self) -> u64 {
-        self.newest + 1 - self.kept.len() as u64
-    }
-
-    fn test_least(&self, least: u64) -> Result<(), Refusal> {
-        if least > self.newest {
-            return Err(refused(409, 18, &format!("snapshot {least} not yet, newest {}", self.newest)));
-        }
-        Ok(())
-    }
-
-    fn snapshot_of(&self, query: &Query, front: &str) -> Result<u64, Refusal> {
-        let number = query.token.as_ref().map_or(self.newest, |token| token.0);
-        if number > self.newest {
-            return Err(refused(400, 17, &format!("{front}snapshot {number} ahead, newest {}", self.newest)));
-        }
-        if number < self.oldest() {
-            return Err(refused(410, 16, &format!("{front}snapshot {number} gone, oldest {}", self.oldest())));
-        }
-        Ok(number)
-    }
-
-    fn put_page(&self, query: &Query, number: u64, is_brief: bool, body: &mut Vec<u8>) {
-        let snapshot = &self.kept[(number - self.oldest()) as usize];
+    fn put_page(&self, query: &Query, number: u64, snapshot: &Snapshot, is_brief: bool, body: &mut Vec<u8>) {
         let (found, more) = snapshot.page(query, self.settings.page);
         let last = match found.last() {
             None => return body.extend_from_slice(b"{}"),
@@ -236,10 +230,13 @@ impl Service {
 
     fn query(&self, body: &[u8], least: u64) -> Result<Answer, Refusal> {
         let query = read_query(body).map_err(|(code, name)| refused(400, 13, &format!("query refused: {code} {name}")))?;
-        self.test_least(least)?;
-        let number = self.snapshot_of(&query, "")?;
+        let (number, snapshot) = {
+            let state = self.state();
+            state.test_least(least)?;
+            state.snapshot_of(&query, "")?
+        };
         let mut body = Vec::new();
-        self.put_page(&query, number, false, &mut body);
+        self.put_page(&query, number, &snapshot, false, &mut body);
         Ok(of_snapshot(number, body))
     }
 
@@ -248,27 +245,63 @@ impl Service {
             let front = index.map_or(String::new(), |index| format!("query {index}: "));
             refused(400, 13, &format!("{front}query refused: {code} {name}"))
         })?;
-        self.test_least(least)?;
-        let name = |(index, query)| self.snapshot_of(query, &format!("query {index}: "));
-        let numbers: Vec<u64> = queries.iter().enumerate().map(name).collect::<Result<_, _>>()?;
+        let (newest, snapshots) = {
+            let state = self.state();
+            state.test_least(least)?;
+            let of = |(index, query)| state.snapshot_of(query, &format!("query {index}: "));
+            let snapshots: Vec<(u64, Arc<Snapshot>)> = queries.iter().enumerate().map(of).collect::<Result<_, _>>()?;
+            (state.newest, snapshots)
+        };
         let mut body = b"{\"results\":[".to_vec();
-        for (place, (query, number)) in queries.iter().zip(numbers).enumerate() {
+        for (place, (query, (number, snapshot))) in queries.iter().zip(snapshots).enumerate() {
             if place > 0 {
                 body.push(b',');
             }
-            self.put_page(query, number, true, &mut body);
+            self.put_page(query, number, &snapshot, true, &mut body);
         }
         body.extend_from_slice(b"]}");
-        Ok(of_snapshot(self.newest, body))
+        Ok(of_snapshot(newest, body))
     }
 
     fn advisory(&self, id: &str, least: u64) -> Result<Answer, Refusal> {
-        self.test_least(least)?;
+        let (newest, snapshot) = {
+            let state = self.state();
+            state.test_least(least)?;
+            (state.newest, Arc::clone(state.last()))
+        };
         let id = String::from_utf8(percent_decoded(id)).unwrap_or_default();
-        match self.last().by_id.get(id.as_str()).filter(|_| is_id(&id)) {
-            Some(stored) => Ok(of_snapshot(self.newest, stored.text.to_vec())),
+        match snapshot.by_id.get(id.as_str()).filter(|_| is_id(&id)) {
+            Some(stored) => Ok(of_snapshot(newest, stored.text.to_vec())),
             None => Err(refused(404, 11, "no such id")),
         }
+    }
+}
+
+impl State {
+    fn last(&self) -> &Arc<Snapshot> {
+        &self.kept[self.kept.len() - 1]
+    }
+
+    fn oldest(&self) -> u64 {
+        self.newest + 1 - self.kept.len() as u64
+    }
+
+    fn test_least(&self, least: u64) -> Result<(), Refusal> {
+        if least > self.newest {
+            return Err(refused(409, 18, &format!("snapshot {least} not yet, newest {}", self.newest)));
+        }
+        Ok(())
+    }
+
+    fn snapshot_of(&self, query: &Query, front: &str) -> Result<(u64, Arc<Snapshot>), Refusal> {
+        let number = query.token.as_ref().map_or(self.newest, |token| token.0);
+        if number > self.newest {
+            return Err(refused(400, 17, &format!("{front}snapshot {number} ahead, newest {}", self.newest)));
+        }
+        if number < self.oldest() {
+            return Err(refused(410, 16, &format!("{front}snapshot {number} gone, oldest {}", self.oldest())));
+        }
+        Ok((number, Arc::clone(&self.kept[(number - self.oldest()) as usize])))
     }
 }
 

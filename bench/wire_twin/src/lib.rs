@@ -325,28 +325,29 @@ pub fn reply(sink: &mut impl Write, out: &mut Vec<u8>, line: &str, field: &str, 
     sink.write_all(out)
 }
 
-/// Answers the requests on standard input by `answer`, and the status of the run.
-pub fn run(mut answer: impl FnMut(Request, bool, &mut File) -> io::Result<()>) -> u8 {
-    // The files themselves: std's would put buffers of their own between.
-    let mut source = ManuallyDrop::new(unsafe { File::from_raw_fd(0) });
-    let mut sink = ManuallyDrop::new(unsafe { File::from_raw_fd(1) });
+/// Answers the requests of a connection by `answer`, and the status of the run.
+pub fn run_over<S: Read, K: Write>(
+    source: &mut S,
+    sink: &mut K,
+    mut answer: impl FnMut(Request, bool, &mut K) -> io::Result<()>,
+) -> u8 {
     let mut held = Held::default();
     for number in 1..=MOST_REQUESTS {
-        let request = match next(&mut *source, &mut *sink, &mut held) {
+        let request = match next(source, sink, &mut held) {
             Ok(request) => request,
             Err(Stop::Ended) => return 0,
             Err(Stop::Truncated) => return 5,
             Err(Stop::Io) => return 3,
             Err(Stop::Refused(Fault(line, code, message))) => {
                 let body = format!("{{\"code\":{code},\"message\":\"{message}\"}}");
-                return match reply(&mut *sink, &mut Vec::new(), line, "", body.as_bytes(), true) {
+                return match reply(sink, &mut Vec::new(), line, "", body.as_bytes(), true) {
                     Ok(()) => 5,
                     Err(_) => 4,
                 };
             }
         };
         let close = request.close;
-        if answer(request, close || number == MOST_REQUESTS, &mut sink).is_err() {
+        if answer(request, close || number == MOST_REQUESTS, sink).is_err() {
             return 4;
         }
         if close {
@@ -354,4 +355,12 @@ pub fn run(mut answer: impl FnMut(Request, bool, &mut File) -> io::Result<()>) -
         }
     }
     5
+}
+
+/// The same for the requests on standard input.
+pub fn run(answer: impl FnMut(Request, bool, &mut File) -> io::Result<()>) -> u8 {
+    // The files themselves: std's would put buffers of their own between.
+    let mut source = ManuallyDrop::new(unsafe { File::from_raw_fd(0) });
+    let mut sink = ManuallyDrop::new(unsafe { File::from_raw_fd(1) });
+    run_over(&mut *source, &mut *sink, answer)
 }
