@@ -13,12 +13,13 @@ use Rattle.settings.specs.Ranges.{AreInRange, IsBetween}
 use Rattle.settings.specs.declared.Settings.{Settings}
 use Rattle.settings.specs.declared.TheConstants.{MAX_INPUT_BYTES}
 use Rattle.command_line.specs.declared.number.TheConstants.{MAX_DIGITS}
+use Rattle.command_line.specs.declared.command.TheConstants.{MAX_HELPERS, MAX_LANES}
 use Rattle.command_line.specs.declared.command.Command.{Command}
 use Rattle.command_line.specs.declared.command.Command.TheVariants as of
 use Rattle.command_line.specs.declared.table.CommandName.{CommandName}
-use Rattle.command_line.specs.declared.table.CommandName.TheVariants.{Ask, Check, Replay}
+use Rattle.command_line.specs.declared.table.CommandName.TheVariants.{Ask, Check, Replay, Serve}
 use Rattle.command_line.specs.declared.table.OptionName.{OptionName}
-use Rattle.command_line.specs.declared.table.OptionName.TheVariants.{Input, Keep, Page, Weight, Commits, Body, Requests}
+use Rattle.command_line.specs.declared.table.OptionName.TheVariants.{Input, Keep, Page, Weight, Commits, Body, Requests, ServeRequests, Lanes, Helpers}
 use Rattle.command_line.specs.declared.table.Takes.{Takes}
 use Rattle.command_line.specs.declared.table.Takes.TheVariants.{Number}
 use Rattle.command_line.specs.Table as table
@@ -49,12 +50,12 @@ number_by o rows = number_as o.takes (first_of o.spelling rows)
 abbrev pub number_of : OptionName → List Row → Option ℕ
 number_of o = number_by (option_row o)
 
--- the settings, where those that no option says are the defaults
-abbrev pub settings_of : List Row → Option Settings
-settings_of rows =
+-- the settings, where those that no option says are the defaults; that of the requests is the option's of the command
+abbrev pub settings_of : OptionName → List Row → Option Settings
+settings_of asked rows =
     option_and_then (λ keep. option_and_then (λ page. option_and_then (λ weight. option_and_then (λ commits. option_and_then (λ body. option_map (λ requests.
     record { weight = weight; body = body; requests = requests; keep = keep; page = page; commits = commits })
-    (number_of Requests rows)) (number_of Body rows)) (number_of Commits rows)) (number_of Weight rows)) (number_of Page rows)) (number_of Keep rows)
+    (number_of asked rows)) (number_of Body rows)) (number_of Commits rows)) (number_of Weight rows)) (number_of Page rows)) (number_of Keep rows)
 
 -- ---- operands
 
@@ -96,6 +97,11 @@ subject_of rows =
     option_map_or (λ text. option_and_then (λ oid. commit_asked oid (operands rows)) (oid_of text))
     (first_of (codes "commit") rows) (package_asked (operands rows))
 
+-- ADDRESS, which is not empty
+abbrev pub address_of : List Text → Option Text
+address_of (a ∷ []) = if nat_lt 0 (length a) then Some a else None
+address_of _ = None
+
 -- ---- commands
 
 -- [--input N] ECOSYSTEM NAME [VERSION], or [--input N] --commit OID [ECOSYSTEM NAME]
@@ -108,13 +114,21 @@ check_of rows = option_and_then (λ input. if is_bare (operands rows) then Some 
 
 -- [--keep N] [--page N] [--weight N] [--commits N] [--body N] [--requests N]
 abbrev pub replay_of : List Row → Option Command
-replay_of rows = option_and_then (λ settings. if is_bare (operands rows) then Some (of.Replay settings) else None) (settings_of rows)
+replay_of rows = option_and_then (λ settings. if is_bare (operands rows) then Some (of.Replay settings) else None) (settings_of Requests rows)
+
+-- the options of `replay`, [--lanes N] [--helpers N] ADDRESS
+abbrev pub serve_of : List Row → Option Command
+serve_of rows =
+    option_and_then (λ settings. option_and_then (λ lanes. option_and_then (λ helpers. option_map (λ address.
+    of.Serve settings lanes helpers address)
+    (address_of (operands rows))) (number_of Helpers rows)) (number_of Lanes rows)) (settings_of ServeRequests rows)
 
 -- the command of what `clap` finds
 abbrev pub command_of : CommandName → List Row → Option Command
 command_of Ask rows = ask_of rows
 command_of Check rows = check_of rows
 command_of Replay rows = replay_of rows
+command_of Serve rows = serve_of rows
 
 -- the command that the words are, or none where they are outside the grammar
 abbrev pub command : List Text → Option Command
@@ -126,3 +140,4 @@ abbrev pub IsInRange : Command → Type 0
 IsInRange (of.Ask subject input) = IsBetween 1 MAX_INPUT_BYTES input
 IsInRange (of.Check input) = IsBetween 1 MAX_INPUT_BYTES input
 IsInRange (of.Replay settings) = AreInRange settings
+IsInRange (of.Serve settings lanes helpers address) = AreInRange settings × IsBetween 1 MAX_LANES lanes × IsBetween 0 MAX_HELPERS helpers

@@ -1,5 +1,11 @@
-use osv_prim::Subject;
+use osv_prim::{Subject, Text};
 use settings::Settings;
+
+/// The most connections that `serve` serves beside one another; at least one is.
+pub const MAX_LANES: u64 = 64;
+
+/// The most threads that do the jobs of publications beside them.
+pub const MAX_HELPERS: u64 = 64;
 
 /// What the program is to do.
 #[derive(Debug, Drop)]
@@ -17,4 +23,14 @@ pub enum Command {
     },
     /// `replay`: answer the requests of the input.
     Replay(Settings),
+    /// `serve`: answer the requests of connections.
+    Serve {
+        settings: Settings,
+        /// How many connections are served beside one another, from 1 to `MAX_LANES`.
+        lanes: u64,
+        /// How many threads do the jobs of publications beside them, from 0 to `MAX_HELPERS`.
+        helpers: u64,
+        /// Where connections come in. It is not empty.
+        address: Text,
+    },
 }

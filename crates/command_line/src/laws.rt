@@ -5,7 +5,7 @@ ghost use Rattle.osv_prim.specs.declared.subject.Subject.TheVariants.{Package};
 ghost use Rattle.settings.specs.Ranges.{default_settings};
 ghost use Rattle.settings.specs.declared.TheConstants.{MAX_INPUT_BYTES};
 ghost use Rattle.command_line.specs.Commands.{command};
-ghost use Rattle.command_line.specs.declared.command.Command.TheVariants.{Ask, Check, Replay};
+ghost use Rattle.command_line.specs.declared.command.Command.TheVariants.{Ask, Check, Replay, Serve};
 
 /// Options stand before, between and behind the operands, in both spellings.
 pub fn words_that_are_commands()
@@ -17,6 +17,9 @@ pub fn words_that_are_commands()
     ensures no_options { command (codes "replay" ∷ []) ≡ Some (Replay default_settings) }
     ensures all_options { command (codes "replay" ∷ codes "--requests=2" ∷ codes "--body" ∷ codes "1" ∷ codes "--weight=64" ∷ codes "--page" ∷ codes "2" ∷ codes "--keep=1" ∷ codes "--commits" ∷ codes "3" ∷ [])
         ≡ Some (Replay (record { weight = 64; body = 1; requests = 2; keep = 1; page = 2; commits = 3 })) }
+    ensures an_address { command (codes "serve" ∷ codes "a:1" ∷ []) ≡ Some (Serve (record default_settings { requests = 1000 }) 4 2 (codes "a:1")) }
+    ensures lanes_and_helpers { command (codes "serve" ∷ codes "--requests=2" ∷ codes "a:1" ∷ codes "--helpers" ∷ codes "0" ∷ codes "--lanes=64" ∷ [])
+        ≡ Some (Serve (record default_settings { requests = 2 }) 64 0 (codes "a:1")) }
 {}
 
 /// An option stands once, with a value in its range, at a command that takes it.
@@ -29,4 +32,8 @@ pub fn words_that_are_none()
     ensures of_another_command { command (codes "replay" ∷ codes "--input=5" ∷ []) ≡ None }
     ensures an_operand { command (codes "check" ∷ codes "npm" ∷ []) ≡ None }
     ensures no_operands { command (codes "ask" ∷ []) ≡ None }
+    ensures no_lane { command (codes "serve" ∷ codes "--lanes=0" ∷ codes "a:1" ∷ []) ≡ None }
+    ensures too_many_helpers { command (codes "serve" ∷ codes "--helpers=65" ∷ codes "a:1" ∷ []) ≡ None }
+    ensures an_empty_address { command (codes "serve" ∷ [] ∷ []) ≡ None }
+    ensures two_addresses { command (codes "serve" ∷ codes "a:1" ∷ codes "a:2" ∷ []) ≡ None }
 {}

@@ -21,5 +21,5 @@ mod table;
 mod tests;
 mod words;
 
-pub use command::Command;
+pub use command::{Command, MAX_HELPERS, MAX_LANES};
 pub use words::read;

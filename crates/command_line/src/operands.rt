@@ -1,7 +1,7 @@
 ghost use Rattle.std.specs.Prelude.{◌≡◌, IfOk, option_map};
 ghost use Rattle.clap.specs.Words.{found_of, rows_of};
 ghost use Rattle.osv_prim.specs.declared.subject.Subject.TheVariants.{Package};
-ghost use Rattle.command_line.specs.Commands.{commit_asked, is_bare, listed, package_asked, package_of, subject_of};
+ghost use Rattle.command_line.specs.Commands.{address_of, commit_asked, is_bare, listed, package_asked, package_of, subject_of};
 
 use crate::matched::{operands, text_of};
 use clap::ArgMatches;
@@ -73,4 +73,14 @@ pub fn is_bare(operands: Option<&[&str]>) -> bool
     ensures { result ≡ is_bare (listed operands.entry) }
 {
     matches!(operands, None | Some([]))
+}
+
+/// The address, or none where the words are not one that is not empty.
+pub fn address_of(alloc: Global, operands: Option<&[&str]>) -> Result<Option<Text>, Memory>
+    ensures { IfOk result (λ a. a ≡ address_of (listed operands.entry)) }
+{
+    match operands {
+        Some([address]) if !address.is_empty() => Ok(Some(Text::copy_of(alloc, address)?)),
+        _ => Ok(None),
+    }
 }

@@ -2,6 +2,7 @@ ghost use Rattle.std.specs.Prelude.{◌≡◌};
 ghost use Rattle.command_line.specs.declared.table.Takes.TheVariants.{Number};
 ghost use Rattle.command_line.specs.Table.{command_named, option_row, options_of, row_in};
 
+use crate::command::{MAX_HELPERS, MAX_LANES};
 use settings::{
     MAX_BODY_BYTES, MAX_COMMITS, MAX_INPUT_BYTES, MAX_KEEP, MAX_PAGE, MAX_REQUESTS, MAX_WEIGHT,
     MIN_WEIGHT,
@@ -18,6 +19,10 @@ pub enum OptionName {
     Commits,
     Body,
     Requests,
+    /// `Requests` at `serve`, where it has another default.
+    ServeRequests,
+    Lanes,
+    Helpers,
 }
 
 /// The value that an option is used with.
@@ -41,6 +46,7 @@ pub enum CommandName {
     Ask,
     Check,
     Replay,
+    Serve,
 }
 
 /// The table of the options.
@@ -56,6 +62,9 @@ pub fn option_row(option: OptionName) -> OptionRow
         OptionName::Commits => row("commits", number(1, MAX_COMMITS as u64, MAX_COMMITS as u64)),
         OptionName::Body => row("body", number(1, MAX_BODY_BYTES, MAX_BODY_BYTES)),
         OptionName::Requests => row("requests", number(1, MAX_REQUESTS, MAX_REQUESTS)),
+        OptionName::ServeRequests => row("requests", number(1, MAX_REQUESTS, 1_000)),
+        OptionName::Lanes => row("lanes", number(1, MAX_LANES, 4)),
+        OptionName::Helpers => row("helpers", number(0, MAX_HELPERS, 2)),
     }
 }
 
@@ -88,6 +97,17 @@ static REPLAY: [OptionName; 6] = [
     OptionName::Requests,
 ];
 
+static SERVE: [OptionName; 8] = [
+    OptionName::Keep,
+    OptionName::Page,
+    OptionName::Weight,
+    OptionName::Commits,
+    OptionName::Body,
+    OptionName::ServeRequests,
+    OptionName::Lanes,
+    OptionName::Helpers,
+];
+
 /// The options that a command takes. No two of them may have one spelling.
 pub fn options_of(command: CommandName) -> &'static [OptionName]
     ensures { result.now ≡ options_of command }
@@ -96,6 +116,7 @@ pub fn options_of(command: CommandName) -> &'static [OptionName]
         CommandName::Ask => ASK.as_slice(),
         CommandName::Check => CHECK.as_slice(),
         CommandName::Replay => REPLAY.as_slice(),
+        CommandName::Serve => SERVE.as_slice(),
     }
 }
 
@@ -107,6 +128,7 @@ pub fn command_named(word: &str) -> Option<CommandName>
         "ask" => Some(CommandName::Ask),
         "check" => Some(CommandName::Check),
         "replay" => Some(CommandName::Replay),
+        "serve" => Some(CommandName::Serve),
         _ => None,
     }
 }

@@ -6,12 +6,14 @@ use std::test::Fail;
 
 const HEAD: &str = "0101010101010101010101010101010101010101";
 
-const COMMANDS: [(&[&str], char); 5] = [
+const COMMANDS: [(&[&str], char); 7] = [
     (&["ask", "npm", "p", "1.0"], 'a'),
     (&["ask", "--commit", HEAD, "--input=5", "npm", "p"], 'a'),
     (&["check", "--input", "5"], 'c'),
     (&["replay", "--body=1", "--requests", "2", "--keep=1"], 'r'),
     (&["replay", "now"], 'n'),
+    (&["serve", "--lanes=1", "127.0.0.1:80"], 's'),
+    (&["serve"], 'n'),
 ];
 
 fn initial(command: &Option<Command>) -> char {
@@ -19,6 +21,7 @@ fn initial(command: &Option<Command>) -> char {
         Some(Command::Ask { .. }) => 'a',
         Some(Command::Check { .. }) => 'c',
         Some(Command::Replay(_)) => 'r',
+        Some(Command::Serve { .. }) => 's',
         None => 'n',
     }
 }

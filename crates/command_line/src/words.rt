@@ -1,12 +1,12 @@
-ghost use Rattle.std.specs.Prelude.{◌≡◌, IfOk, IfSome, map, string_bytes};
+ghost use Rattle.std.specs.Prelude.{◌≡◌, ◌⊎◌, IfOk, IfSome, map, string_bytes};
 ghost use Rattle.clap.specs.Words.{found_of, rows_of};
 ghost use Rattle.settings.specs.Ranges.{AreInRange};
-ghost use Rattle.command_line.specs.Commands.{IsInRange, ask_of, check_of, command, command_of, replay_of, settings_of};
+ghost use Rattle.command_line.specs.Commands.{IsInRange, ask_of, check_of, command, command_of, replay_of, serve_of, settings_of};
 
 use crate::command::Command;
 use crate::matched::{given, operands};
 use crate::number::number_of;
-use crate::operands::{is_bare, subject_of};
+use crate::operands::{address_of, is_bare, subject_of};
 use crate::table::{CommandName, OptionName, command_named};
 use clap::ArgMatches;
 use osv_prim::Memory;
@@ -42,6 +42,7 @@ fn command_of(
         CommandName::Ask => ask_of(alloc, matches),
         CommandName::Check => Ok(check_of(matches)),
         CommandName::Replay => Ok(replay_of(matches)),
+        CommandName::Serve => serve_of(alloc, matches),
     }
 }
 
@@ -73,23 +74,49 @@ fn replay_of(matches: &ArgMatches<'_>) -> Option<Command>
     ensures range { IfSome result IsInRange }
     ensures value { result ≡ replay_of (rows_of (found_of matches.now)) }
 {
-    let settings = settings_of(matches)?;
+    let settings = settings_of(matches, OptionName::Requests)?;
     if !is_bare(operands(matches)) {
         return None;
     }
     Some(Command::Replay(settings))
 }
 
-fn settings_of(matches: &ArgMatches<'_>) -> Option<Settings>
+fn serve_of(alloc: Global, matches: &ArgMatches<'_>) -> Result<Option<Command>, Memory>
+    ensures range { IfOk result (λ c. IfSome c IsInRange) }
+    ensures value { IfOk result (λ c. c ≡ serve_of (rows_of (found_of matches.now))) }
+{
+    let Some(settings) = settings_of(matches, OptionName::ServeRequests) else {
+        return Ok(None);
+    };
+    let Some(lanes) = number_of(matches, OptionName::Lanes) else {
+        return Ok(None);
+    };
+    let Some(helpers) = number_of(matches, OptionName::Helpers) else {
+        return Ok(None);
+    };
+    match address_of(alloc, operands(matches))? {
+        Some(address) => Ok(Some(Command::Serve {
+            settings,
+            lanes,
+            helpers,
+            address,
+        })),
+        None => Ok(None),
+    }
+}
+
+// The settings; `asked` is the command's option of the requests in a session.
+fn settings_of(matches: &ArgMatches<'_>, asked: OptionName) -> Option<Settings>
+    requires { (asked ≡ OptionName.Requests) ⊎ (asked ≡ OptionName.ServeRequests) }
     ensures range { IfSome result AreInRange }
-    ensures value { result ≡ settings_of (rows_of (found_of matches.now)) }
+    ensures value { result ≡ settings_of asked (rows_of (found_of matches.now)) }
 {
     let keep = number_of(matches, OptionName::Keep)?;
     let page = number_of(matches, OptionName::Page)?;
     let weight = number_of(matches, OptionName::Weight)?;
     let commits = number_of(matches, OptionName::Commits)?;
     let body = number_of(matches, OptionName::Body)?;
-    let requests = number_of(matches, OptionName::Requests)?;
+    let requests = number_of(matches, asked)?;
     Some(Settings {
         weight,
         body,

@@ -11,10 +11,10 @@ use Rattle.ask.specs.declared.output.Output.{Output}
 use Rattle.ask.specs.Asked.{asked}
 use Rattle.ask.specs.Checked.{checked}
 use Rattle.command_line.specs.declared.command.Command.{Command}
-use Rattle.command_line.specs.declared.command.Command.TheVariants.{Ask, Check, Replay}
+use Rattle.command_line.specs.declared.command.Command.TheVariants.{Ask, Check, Replay, Serve}
 use Rattle.osv_prim.specs.declared.subject.Subject.{Subject}
 use Rattle.settings.specs.declared.Settings.{Settings}
-use Rattle.osv_service.specs.Run.{usage, WritesFront, Declines, Does, Answers, Ends, FailsFirst, Replays}
+use Rattle.osv_service.specs.Run.{usage, WritesFront, Declines, Does, Answers, Ends, FailsFirst, Replays, Untouched}
 
 four_or_not : (n : ℕ) → (n ≡ 4) ⊎ (n ≢ 4)
 four_or_not n =
@@ -107,6 +107,10 @@ does_check c limit status old new held_old held_new sb sn kb kn is a = subst (λ
 pub does_replay : (c : Command) (settings : Settings) (status : ℕ) (old new held_old held_new : Option (List ℕ)) (sb sn kb kn : ℕ) → c ≡ Replay settings
     → Replays settings status old new held_old held_new sb sn kb kn ⊎ FailsFirst status old new held_old held_new sb sn → Does c status old new held_old held_new sb sn kb kn
 does_replay c settings status old new held_old held_new sb sn kb kn is r = subst (λ (x : Command). Does x status old new held_old held_new sb sn kb kn) (sym is) r
+
+pub does_serve : (c : Command) (settings : Settings) (lanes helpers : ℕ) (address : List ℕ) (status : ℕ) (old new held_old held_new : Option (List ℕ)) (sb sn kb kn : ℕ) → c ≡ Serve settings lanes helpers address
+    → Declines status held_old held_new kb kn × Untouched old new sb sn → Does c status old new held_old held_new sb sn kb kn
+does_serve c settings lanes helpers address status old new held_old held_new sb sn kb kn is d = subst (λ (x : Command). Does x status old new held_old held_new sb sn kb kn) (sym is) d
 
 pub declines_by : (status : ℕ) (text : List ℕ) (held_old held_new : Option (List ℕ)) (kb kn : ℕ) → text ≡ usage
     → (status ≢ 4 → Appends held_old held_new text) → (status ≢ 4 → status ≡ 2) → WritesFront held_old held_new text → (status ≡ 4 → Rose kb kn)

@@ -9,7 +9,7 @@ use Rattle.ask.specs.Checked.{checked}
 use Rattle.ask.specs.Outputs.{within}
 use Rattle.ask.specs.declared.output.Output.{Output}
 use Rattle.command_line.specs.declared.command.Command.{Command}
-use Rattle.command_line.specs.declared.command.Command.TheVariants.{Ask, Check, Replay}
+use Rattle.command_line.specs.declared.command.Command.TheVariants.{Ask, Check, Replay, Serve}
 use Rattle.settings.specs.declared.Settings.{Settings}
 use Rattle.book_model.specs.Desk.{Caller}
 use Rattle.desks.specs.Alone.{new_caller}
@@ -75,7 +75,7 @@ abbrev pub FailsFirst : ℕ → Option (List ℕ) → Option (List ℕ) → Opti
 FailsFirst status left_old left_new held_old held_new source_before source_now =
     (status ≡ 6) × Keeps held_old held_new × Untouched left_old left_new source_before source_now
 
--- what each command does
+-- what each command does; `serve` is none of a source and a sink, and declined
 abbrev pub Does : Command → ℕ → Option (List ℕ) → Option (List ℕ) → Option (List ℕ) → Option (List ℕ) → ℕ → ℕ → ℕ → ℕ → Type 0
 Does (Ask subject limit) status left_old left_new held_old held_new source_before source_now sink_before sink_now =
     Answers (within limit (asked subject)) status left_old left_new held_old held_new source_before source_now sink_before sink_now
@@ -84,6 +84,8 @@ Does (Check limit) status left_old left_new held_old held_new source_before sour
 Does (Replay settings) status left_old left_new held_old held_new source_before source_now sink_before sink_now =
     Replays settings status left_old left_new held_old held_new source_before source_now sink_before sink_now
     ⊎ FailsFirst status left_old left_new held_old held_new source_before source_now
+Does (Serve settings lanes helpers address) status left_old left_new held_old held_new source_before source_now sink_before sink_now =
+    Declines status held_old held_new sink_before sink_now × Untouched left_old left_new source_before source_now
 
 -- the output was written, or a front of it
 pub record Writes (o : Output) (status : ℕ) (held_old held_new : Option (List ℕ)) (sink_before sink_now : ℕ) : Type 0 where

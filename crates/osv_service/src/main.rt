@@ -4,6 +4,7 @@
 mod program;
 #[cfg(test)]
 mod replay_tests;
+mod service;
 #[cfg(test)]
 mod tests;
 
@@ -12,10 +13,18 @@ ghost use Rattle.command_line.specs.Commands.{command};
 ghost use Rattle.osv_service.specs.Run.{Declines, Does, Untouched};
 
 use edge_io::{ReadEnd, Sink, Source, WriteEnd};
+use listeners::TcpDoor;
 use osv_prim::{Ledger, Steps, Unkept};
 pub use program::run;
+pub use service::serve;
+use serving::RestGate;
+use std::alloc::Global;
+use std::net::{Net, TcpListener, TcpStream};
 use std::process::ExitCode;
+use std::sync::Wait;
 use std::sync::ledger::Blank;
+use std::thread::Threads;
+use std::time::Clock;
 use std::{env, io};
 
 // The words after the program's name.
@@ -50,6 +59,19 @@ fn with_steps<S: Source, K: Sink, L: Ledger>(
     run(rt.alloc(), words, source, sink, &mut steps)
 }
 
+// What `serve` comes to over TCP, or 6 for want of memory.
+fn serve_tcp<R: Threads + Wait + Sync + Clock + Net<Listener = TcpListener, Stream = TcpStream>>(
+    rt: &R,
+    host: &HostRuntime,
+    alloc: Global,
+    words: &[String],
+) -> u8 {
+    let Ok(mut door) = TcpDoor::new(rt, alloc, u64::MAX) else {
+        return 6;
+    };
+    serve(rt, host, alloc, words, &mut door, &RestGate::new(rt))
+}
+
 fn main(rt: HostRuntime) -> ExitCode {
     let words = match words_of(&rt) {
         Ok(words) => words,
@@ -61,6 +83,13 @@ fn main(rt: HostRuntime) -> ExitCode {
             Vec::new(rt.alloc())
         }
     };
+    if words.first().is_some_and(|word| word.as_str() == "serve") {
+        let status = serve_tcp(&rt, &rt, rt.alloc(), words.as_slice());
+        if status != 2 {
+            return ExitCode::from(status);
+        }
+        // Its words are no command: `run` says so.
+    }
     let mut source = ReadEnd::new(rt.reader());
     let mut sink = WriteEnd::new(io::writer(&rt));
     let status = with_steps::<_, _, Unkept>(

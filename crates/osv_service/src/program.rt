@@ -24,7 +24,8 @@ pub(crate) const USAGE: &str =
 /// Does what the words say over a source and a sink, and answers the status: 0 where the whole input
 /// was read and answered, 2 where the words are no command, 3 where the source failed, 4 where the
 /// sink failed, 5 where the input is refused, and 6 for want of memory. `replay` is refused where its
-/// session ends by a request that no other can follow, inside one, or as many were answered as may be.
+/// session ends by a request that no other can follow, inside one, or as many were answered as may be. The words of
+/// `serve` are no command here.
 pub fn run<S: Source, K: Sink, L: Ledger>(
     alloc: Global,
     words: &[String],
@@ -68,6 +69,7 @@ fn done<S: Source, K: Sink, L: Ledger>(
             end(sink, output)
         }
         Command::Replay(settings) => replay(alloc, settings, source, sink, steps),
+        Command::Serve { .. } => decline(sink),
     }
 }
 

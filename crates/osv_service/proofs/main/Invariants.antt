@@ -1,4 +1,4 @@
 use Rattle.osv_service.proofs.main.Given as goal
 
 abbrev pub ghosts-with_steps : goal.ghosts-with_steps
-ghosts-with_steps a = record { name = a.blank.name; parts = a.blank.parts }
+ghosts-with_steps g a = record { name = a.blank.name; parts = a.blank.parts }

@@ -14,4 +14,8 @@ returns c = record {
   of_another_command = refl;
   an_operand = refl;
   no_operands = refl;
+  no_lane = refl;
+  too_many_helpers = refl;
+  an_empty_address = refl;
+  two_addresses = refl;
 }

@@ -1,7 +1,8 @@
+use Rattle.std.proofs.Common.{refl}
 use Rattle.ask.specs.Asked.{asked}
 use Rattle.ask.specs.Checked.{checked}
 use Rattle.ask.specs.Outputs.{within}
-use Rattle.osv_service.proofs.Ending.{answers_by, does_ask, does_check, does_replay}
+use Rattle.osv_service.proofs.Ending.{answers_by, does_ask, does_check, does_replay, does_serve}
 use Rattle.osv_service.proofs.program.done.Goals as goal
 
 pub returns-in-Ask : goal.returns-in-Ask
@@ -18,3 +19,7 @@ pub returns-in-Replay : goal.returns-in-Replay
 returns-in-Replay g c =
     does_replay c.args.command.now c.in-Replay.settings c.replay.result (g.S.Source.left c.args.source.now) (g.S.Source.left c.replay.new.source) (g.K.Sink.held c.args.sink.now) (g.K.Sink.held c.replay.new.sink)
     (g.S.Source.faults c.args.source.now) (g.S.Source.faults c.replay.new.source) (g.K.Sink.faults c.args.sink.now) (g.K.Sink.faults c.replay.new.sink) c.in-Replay.is c.replay.ensures
+
+pub returns-in-Serve : goal.returns-in-Serve
+returns-in-Serve g c =
+    does_serve c.args.command.now c.in-Serve.settings c.in-Serve.lanes c.in-Serve.helpers c.in-Serve.address c.decline.result _ _ _ _ _ _ _ _ c.in-Serve.is (c.decline.ensures, (refl, refl))
