@@ -1,5 +1,5 @@
 """The program that the checks run; they import it, and it does nothing alone."""
-import os, subprocess, sys
+import contextlib, os, socket, subprocess, sys, time
 
 TOP = os.path.dirname(os.path.dirname(os.path.abspath(__file__)))
 
@@ -52,3 +52,30 @@ def built_test(name):
             sys.exit(f"rt run in crates/{name}: status {done.returncode}")
         os.utime(program)
     return program
+
+
+def free_port():
+    """A loopback port on which nothing listens."""
+    with socket.create_server(("127.0.0.1", 0)) as one:
+        return one.getsockname()[1]
+
+
+@contextlib.contextmanager
+def listening(port, words):
+    """A program that listens on a loopback port, until it isn't wanted any more."""
+    process = subprocess.Popen(words)
+    try:
+        for _ in range(600):
+            if process.poll() is not None:
+                sys.exit(f"{words[0]} ended with {process.returncode}")
+            try:
+                socket.create_connection(("127.0.0.1", port)).close()
+                break
+            except OSError:
+                time.sleep(0.05)
+        else:
+            sys.exit(f"{words[0]} doesn't listen")
+        yield
+    finally:
+        process.terminate()
+        process.wait()
