@@ -1,7 +1,8 @@
 """The program that the checks run; they import it, and it does nothing alone."""
-import contextlib, os, socket, subprocess, sys, time
+import contextlib, itertools, os, socket, subprocess, sys, time
 
 TOP = os.path.dirname(os.path.dirname(os.path.abspath(__file__)))
+PORTS = itertools.count(10_240 + os.getpid() * 64 % 20_000)
 
 
 def built():
@@ -55,9 +56,13 @@ def built_test(name):
 
 
 def free_port():
-    """A loopback port on which nothing listens."""
-    with socket.create_server(("127.0.0.1", 0)) as one:
-        return one.getsockname()[1]
+    """A loopback port below those that the system gives to clients, which come and go while a program starts."""
+    while True:
+        try:
+            with socket.create_server(("127.0.0.1", next(PORTS))) as one:
+                return one.getsockname()[1]
+        except OSError:
+            pass
 
 
 @contextlib.contextmanager
