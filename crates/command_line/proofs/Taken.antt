@@ -6,19 +6,21 @@ use Rattle.clap.specs.declared.error.kind.ErrorKind.{ErrorKind}
 use Rattle.clap.specs.declared.error.kind.ErrorKind.TheVariants.{OutOfMemory}
 use Rattle.command_line.specs.Grammar.{app, given, unless}
 use Rattle.command_line.specs.declared.table.CommandName.{CommandName}
-use Rattle.command_line.specs.declared.table.CommandName.TheVariants.{Ask, Check, Replay, Serve}
+use Rattle.command_line.specs.declared.table.CommandName.TheVariants.{Ask, Check, Replay, Serve, Drill}
 
 pub simple : (name : CommandName) → is_simple (app name) ≡ true
 simple Ask = refl
 simple Check = refl
 simple Replay = refl
 simple Serve = refl
+simple Drill = refl
 
 pub free : (name : CommandName) → is_simple_and_free (app name) ≡ true
 free Ask = refl
 free Check = refl
 free Replay = refl
 free Serve = refl
+free Drill = refl
 
 pub taken : (name : CommandName) (words : List Text) (a : App) (rows : List Row) → a ≡ app name → fault_of a words ≡ [] → rows ≡ matches_of a words → Some rows ≡ given name words
 taken name words a rows same none found =

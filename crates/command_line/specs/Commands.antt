@@ -13,11 +13,11 @@ use Rattle.settings.specs.Ranges.{AreInRange, IsBetween}
 use Rattle.settings.specs.declared.Settings.{Settings}
 use Rattle.settings.specs.declared.TheConstants.{MAX_INPUT_BYTES}
 use Rattle.command_line.specs.declared.number.TheConstants.{MAX_DIGITS}
-use Rattle.command_line.specs.declared.command.TheConstants.{MAX_HELPERS, MAX_LANES}
+use Rattle.command_line.specs.declared.command.TheConstants.{MAX_DRILL, MAX_HELPERS, MAX_LANES, MIN_DRILL}
 use Rattle.command_line.specs.declared.command.Command.{Command}
 use Rattle.command_line.specs.declared.command.Command.TheVariants as of
 use Rattle.command_line.specs.declared.table.CommandName.{CommandName}
-use Rattle.command_line.specs.declared.table.CommandName.TheVariants.{Ask, Check, Replay, Serve}
+use Rattle.command_line.specs.declared.table.CommandName.TheVariants.{Ask, Check, Replay, Serve, Drill}
 use Rattle.command_line.specs.declared.table.OptionName.{OptionName}
 use Rattle.command_line.specs.declared.table.OptionName.TheVariants.{Input, Keep, Page, Weight, Commits, Body, Requests, ServeRequests, Lanes, Helpers}
 use Rattle.command_line.specs.declared.table.Takes.{Takes}
@@ -102,6 +102,11 @@ abbrev pub address_of : List Text → Option Text
 address_of (a ∷ []) = if nat_lt 0 (length a) then Some a else None
 address_of _ = None
 
+-- SEED SIZE
+abbrev pub drill_asked : List Text → Option Command
+drill_asked (seed ∷ size ∷ []) = option_and_then (λ s. option_map (λ n. of.Drill s n) (u64_in MAX_DIGITS MIN_DRILL MAX_DRILL size)) (u64_in MAX_DIGITS 0 18446744073709551615 seed)
+drill_asked _ = None
+
 -- ---- commands
 
 -- [--input N] ECOSYSTEM NAME [VERSION], or [--input N] --commit OID [ECOSYSTEM NAME]
@@ -123,12 +128,17 @@ serve_of rows =
     of.Serve settings lanes helpers address)
     (address_of (operands rows))) (number_of Helpers rows)) (number_of Lanes rows)) (settings_of ServeRequests rows)
 
+-- SEED SIZE
+abbrev pub drill_of : List Row → Option Command
+drill_of rows = drill_asked (operands rows)
+
 -- the command of what `clap` finds
 abbrev pub command_of : CommandName → List Row → Option Command
 command_of Ask rows = ask_of rows
 command_of Check rows = check_of rows
 command_of Replay rows = replay_of rows
 command_of Serve rows = serve_of rows
+command_of Drill rows = drill_of rows
 
 -- the command that the words are, or none where they are outside the grammar
 abbrev pub command : List Text → Option Command
@@ -141,3 +151,4 @@ IsInRange (of.Ask subject input) = IsBetween 1 MAX_INPUT_BYTES input
 IsInRange (of.Check input) = IsBetween 1 MAX_INPUT_BYTES input
 IsInRange (of.Replay settings) = AreInRange settings
 IsInRange (of.Serve settings lanes helpers address) = AreInRange settings × IsBetween 1 MAX_LANES lanes × IsBetween 0 MAX_HELPERS helpers
+IsInRange (of.Drill seed size) = IsBetween MIN_DRILL MAX_DRILL size

@@ -4,7 +4,7 @@ use Rattle.std.specs.Str.{bytes_eq}
 use Rattle.settings.specs.declared.TheConstants.{MAX_BODY_BYTES, MAX_COMMITS, MAX_INPUT_BYTES, MAX_KEEP, MAX_PAGE, MAX_REQUESTS, MAX_WEIGHT, MIN_WEIGHT}
 use Rattle.command_line.specs.declared.command.TheConstants.{MAX_HELPERS, MAX_LANES}
 use Rattle.command_line.specs.declared.table.CommandName.{CommandName}
-use Rattle.command_line.specs.declared.table.CommandName.TheVariants.{Ask, Check, Replay, Serve}
+use Rattle.command_line.specs.declared.table.CommandName.TheVariants.{Ask, Check, Replay, Serve, Drill}
 use Rattle.command_line.specs.declared.table.OptionName.{OptionName}
 use Rattle.command_line.specs.declared.table.OptionName.TheVariants.{Commit, Input, Keep, Page, Weight, Commits, Body, Requests, ServeRequests, Lanes, Helpers}
 use Rattle.command_line.specs.declared.table.OptionRow.{OptionRow}
@@ -42,6 +42,7 @@ options_of Ask = Input ∷ Commit ∷ []
 options_of Check = Input ∷ []
 options_of Replay = Keep ∷ Page ∷ Weight ∷ Commits ∷ Body ∷ Requests ∷ []
 options_of Serve = Keep ∷ Page ∷ Weight ∷ Commits ∷ Body ∷ ServeRequests ∷ Lanes ∷ Helpers ∷ []
+options_of Drill = []
 
 -- the command that a word names
 abbrev pub command_named : List ℕ → Option CommandName
@@ -49,4 +50,5 @@ command_named word =
     if bytes_eq word (codes "ask") then Some Ask
     else (if bytes_eq word (codes "check") then Some Check
     else (if bytes_eq word (codes "replay") then Some Replay
-    else (if bytes_eq word (codes "serve") then Some Serve else None)))
+    else (if bytes_eq word (codes "serve") then Some Serve
+    else (if bytes_eq word (codes "drill") then Some Drill else None))))

@@ -7,6 +7,12 @@ pub const MAX_LANES: u64 = 64;
 /// The most threads that do the jobs of publications beside them.
 pub const MAX_HELPERS: u64 = 64;
 
+/// The fewest commits and advisories of a drill.
+pub const MIN_DRILL: u64 = 4;
+
+/// The most commits and advisories of a drill.
+pub const MAX_DRILL: u64 = 2_000;
+
 /// What the program is to do.
 #[derive(Debug, Drop)]
 pub enum Command {
@@ -32,5 +38,11 @@ pub enum Command {
         helpers: u64,
         /// Where connections come in. It is not empty.
         address: Text,
+    },
+    /// `drill`: write how many hits a history that is drawn from a number has.
+    Drill {
+        seed: u64,
+        /// How many commits are drawn, and how many advisories, from `MIN_DRILL` to `MAX_DRILL`.
+        size: u32,
     },
 }

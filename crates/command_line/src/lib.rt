@@ -21,5 +21,5 @@ mod table;
 mod tests;
 mod words;
 
-pub use command::{Command, MAX_HELPERS, MAX_LANES};
+pub use command::{Command, MAX_DRILL, MAX_HELPERS, MAX_LANES, MIN_DRILL};
 pub use words::read;

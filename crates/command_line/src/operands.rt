@@ -1,11 +1,13 @@
-ghost use Rattle.std.specs.Prelude.{◌≡◌, IfOk, option_map};
+ghost use Rattle.std.specs.Prelude.{◌≡◌, IfOk, IfSome, option_map};
 ghost use Rattle.clap.specs.Words.{found_of, rows_of};
 ghost use Rattle.osv_prim.specs.declared.subject.Subject.TheVariants.{Package};
-ghost use Rattle.command_line.specs.Commands.{address_of, commit_asked, is_bare, listed, package_asked, package_of, subject_of};
+ghost use Rattle.command_line.specs.Commands.{address_of, commit_asked, is_bare, listed, package_asked, package_of, subject_of, IsInRange, drill_asked};
 
+use crate::command::{Command, MAX_DRILL, MIN_DRILL};
 use crate::matched::{operands, text_of};
+use crate::number::MAX_DIGITS;
 use clap::ArgMatches;
-use osv_prim::{Memory, Oid, PackageKey, Subject, Text};
+use osv_prim::{Memory, Oid, PackageKey, Subject, Text, read_u64_in};
 use std::alloc::Global;
 
 /// What `ask` asks for, or none where the words are outside the grammar.
@@ -83,4 +85,20 @@ pub fn address_of(alloc: Global, operands: Option<&[&str]>) -> Result<Option<Tex
         Some([address]) if !address.is_empty() => Ok(Some(Text::copy_of(alloc, address)?)),
         _ => Ok(None),
     }
+}
+
+/// The drill of a seed and a size, or none where the words are not two numbers in their ranges.
+pub fn drill_asked(operands: Option<&[&str]>) -> Option<Command>
+    ensures value { result ≡ drill_asked (listed operands.entry) }
+    ensures range { IfSome result IsInRange }
+{
+    let Some([seed, size]) = operands else {
+        return None;
+    };
+    let seed = read_u64_in(seed.as_bytes(), MAX_DIGITS, 0, u64::MAX)?;
+    let size = read_u64_in(size.as_bytes(), MAX_DIGITS, MIN_DRILL, MAX_DRILL)?;
+    Some(Command::Drill {
+        seed,
+        size: size as u32,
+    })
 }

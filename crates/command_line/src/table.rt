@@ -47,6 +47,7 @@ pub enum CommandName {
     Check,
     Replay,
     Serve,
+    Drill,
 }
 
 /// The table of the options.
@@ -108,6 +109,8 @@ static SERVE: [OptionName; 8] = [
     OptionName::Helpers,
 ];
 
+static DRILL: [OptionName; 0] = [];
+
 /// The options that a command takes. No two of them may have one spelling.
 pub fn options_of(command: CommandName) -> &'static [OptionName]
     ensures { result.now ≡ options_of command }
@@ -117,6 +120,7 @@ pub fn options_of(command: CommandName) -> &'static [OptionName]
         CommandName::Check => CHECK.as_slice(),
         CommandName::Replay => REPLAY.as_slice(),
         CommandName::Serve => SERVE.as_slice(),
+        CommandName::Drill => DRILL.as_slice(),
     }
 }
 
@@ -129,6 +133,7 @@ pub fn command_named(word: &str) -> Option<CommandName>
         "check" => Some(CommandName::Check),
         "replay" => Some(CommandName::Replay),
         "serve" => Some(CommandName::Serve),
+        "drill" => Some(CommandName::Drill),
         _ => None,
     }
 }

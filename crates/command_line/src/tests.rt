@@ -6,11 +6,12 @@ use std::test::Fail;
 
 const HEAD: &str = "0101010101010101010101010101010101010101";
 
-const COMMANDS: [(&[&str], char); 7] = [
+const COMMANDS: [(&[&str], char); 8] = [
     (&["ask", "npm", "p", "1.0"], 'a'),
     (&["ask", "--commit", HEAD, "--input=5", "npm", "p"], 'a'),
     (&["check", "--input", "5"], 'c'),
     (&["replay", "--body=1", "--requests", "2", "--keep=1"], 'r'),
+    (&["drill", "7", "2000"], 'd'),
     (&["replay", "now"], 'n'),
     (&["serve", "--lanes=1", "127.0.0.1:80"], 's'),
     (&["serve"], 'n'),
@@ -22,6 +23,7 @@ fn initial(command: &Option<Command>) -> char {
         Some(Command::Check { .. }) => 'c',
         Some(Command::Replay(_)) => 'r',
         Some(Command::Serve { .. }) => 's',
+        Some(Command::Drill { .. }) => 'd',
         None => 'n',
     }
 }

@@ -1,12 +1,12 @@
 ghost use Rattle.std.specs.Prelude.{◌≡◌, ◌⊎◌, IfOk, IfSome, map, string_bytes};
 ghost use Rattle.clap.specs.Words.{found_of, rows_of};
 ghost use Rattle.settings.specs.Ranges.{AreInRange};
-ghost use Rattle.command_line.specs.Commands.{IsInRange, ask_of, check_of, command, command_of, replay_of, serve_of, settings_of};
+ghost use Rattle.command_line.specs.Commands.{IsInRange, ask_of, check_of, command, command_of, replay_of, serve_of, settings_of, drill_of};
 
 use crate::command::Command;
 use crate::matched::{given, operands};
 use crate::number::number_of;
-use crate::operands::{address_of, is_bare, subject_of};
+use crate::operands::{address_of, drill_asked, is_bare, subject_of};
 use crate::table::{CommandName, OptionName, command_named};
 use clap::ArgMatches;
 use osv_prim::Memory;
@@ -43,6 +43,7 @@ fn command_of(
         CommandName::Check => Ok(check_of(matches)),
         CommandName::Replay => Ok(replay_of(matches)),
         CommandName::Serve => serve_of(alloc, matches),
+        CommandName::Drill => Ok(drill_of(matches)),
     }
 }
 
@@ -103,6 +104,13 @@ fn serve_of(alloc: Global, matches: &ArgMatches<'_>) -> Result<Option<Command>, 
         })),
         None => Ok(None),
     }
+}
+
+fn drill_of(matches: &ArgMatches<'_>) -> Option<Command>
+    ensures range { IfSome result IsInRange }
+    ensures value { result ≡ drill_of (rows_of (found_of matches.now)) }
+{
+    drill_asked(operands(matches))
 }
 
 // The settings; `asked` is the command's option of the requests in a session.

@@ -1,7 +1,7 @@
 -- How a run ends.
 use Rattle.std.proofs.Common.{◌≡◌, ◌≢◌, ◌⊎◌, ℕ, List, Option, Some, None, refl, sym, ap, subst, ◌∙◌, arith, inl, inr, Result, Ok, Err}
 use Rattle.std.specs.Prelude.{IfOk, IfSome, IsErrOf}
-use Rattle.std.specs.Io.KnownBytes.{Appends}
+use Rattle.std.specs.Io.KnownBytes.{Appends, Keeps}
 use Rattle.std.proofs.lemmas.Bool.{cases_lt}
 use Rattle.edge_io.specs.Causes.{Rose}
 use Rattle.line_input.specs.declared.stop.ReadStop.{ReadStop}
@@ -11,10 +11,11 @@ use Rattle.ask.specs.declared.output.Output.{Output}
 use Rattle.ask.specs.Asked.{asked}
 use Rattle.ask.specs.Checked.{checked}
 use Rattle.command_line.specs.declared.command.Command.{Command}
-use Rattle.command_line.specs.declared.command.Command.TheVariants.{Ask, Check, Replay, Serve}
+use Rattle.command_line.specs.declared.command.Command.TheVariants.{Ask, Check, Replay, Serve, Drill}
 use Rattle.osv_prim.specs.declared.subject.Subject.{Subject}
 use Rattle.settings.specs.declared.Settings.{Settings}
-use Rattle.osv_service.specs.Run.{usage, WritesFront, Declines, Does, Answers, Ends, FailsFirst, Replays, Untouched}
+use Rattle.drill.specs.Drilled.{drilled}
+use Rattle.osv_service.specs.Run.{WritesFront, Prints, Declines, Does, Answers, Ends, FailsFirst, Replays, Untouched}
 
 four_or_not : (n : ℕ) → (n ≡ 4) ⊎ (n ≢ 4)
 four_or_not n =
@@ -112,14 +113,30 @@ pub does_serve : (c : Command) (settings : Settings) (lanes helpers : ℕ) (addr
     → Declines status held_old held_new kb kn × Untouched old new sb sn → Does c status old new held_old held_new sb sn kb kn
 does_serve c settings lanes helpers address status old new held_old held_new sb sn kb kn is d = subst (λ (x : Command). Does x status old new held_old held_new sb sn kb kn) (sym is) d
 
-pub declines_by : (status : ℕ) (text : List ℕ) (held_old held_new : Option (List ℕ)) (kb kn : ℕ) → text ≡ usage
-    → (status ≢ 4 → Appends held_old held_new text) → (status ≢ 4 → status ≡ 2) → WritesFront held_old held_new text → (status ≡ 4 → Rose kb kn)
-    → Declines status held_old held_new kb kn
-declines_by status text held_old held_new kb kn e whole same front fault =
+pub does_drill : (c : Command) (seed size status : ℕ) (old new held_old held_new : Option (List ℕ)) (sb sn kb kn : ℕ) → c ≡ Drill seed size → Untouched old new sb sn
+    → Prints (drilled seed size) 0 status held_old held_new kb kn → Does c status old new held_old held_new sb sn kb kn
+does_drill c seed size status old new held_old held_new sb sn kb kn is same p = subst (λ (x : Command). Does x status old new held_old held_new sb sn kb kn) (sym is) (p, same)
+
+-- a text that was written whole, or a front of it
+pub prints_by : (status its : ℕ) (text known : List ℕ) (held_old held_new : Option (List ℕ)) (kb kn : ℕ) → (its ≡ 0) ⊎ (its ≡ 2) → text ≡ known
+    → (status ≢ 4 → Appends held_old held_new text) → (status ≢ 4 → status ≡ its) → WritesFront held_old held_new text → (status ≡ 4 → Rose kb kn)
+    → Prints known its status held_old held_new kb kn
+prints_by status its text known held_old held_new kb kn small e whole same front fault =
     record {
       answers = elim (four_or_not status) [ inl f ↦ inr (inl f) | inr ne ↦ inl (same ne) ];
-      whole = λ two. subst (λ (t : List ℕ). Appends held_old held_new t) e (whole (λ f. omega arith));
+      whole = λ i. subst (λ (t : List ℕ). Appends held_old held_new t) e (whole (λ f. no_more its small (sym i ∙ f) (inl refl)));
       sink_fault = fault;
       front = λ f. subst (λ (t : List ℕ). WritesFront held_old held_new t) e front;
-      no_memory = λ six. let two : status ≡ 2 = same (λ f. omega arith) in absurd (omega arith);
+      no_memory = λ six. absurd (no_more its small (sym (same (λ f. omega (arith, six, f))) ∙ six) (inr refl));
     }
+  where
+    no_more : {n : ℕ} (its : ℕ) → (its ≡ 0) ⊎ (its ≡ 2) → its ≡ n → (n ≡ 4) ⊎ (n ≡ 6) → ⊥
+    no_more its (inl z) e (inl f) = omega (arith, z, e, f)
+    no_more its (inl z) e (inr s) = omega (arith, z, e, s)
+    no_more its (inr z) e (inl f) = omega (arith, z, e, f)
+    no_more its (inr z) e (inr s) = omega (arith, z, e, s)
+
+-- want of memory before anything was written
+pub prints_nothing : (status its : ℕ) (text : List ℕ) (held_old held_new : Option (List ℕ)) (kb kn : ℕ) → (its ≡ 0) ⊎ (its ≡ 2) → status ≡ 6 → Keeps held_old held_new → Prints text its status held_old held_new kb kn
+prints_nothing status its text held_old held_new kb kn (inl z) six kept = record { answers = inr (inr six); whole = λ i. absurd (omega (arith, z, i, six)); sink_fault = λ f. absurd (omega (arith, f, six)); front = λ f. absurd (omega (arith, f, six)); no_memory = λ s. kept }
+prints_nothing status its text held_old held_new kb kn (inr z) six kept = record { answers = inr (inr six); whole = λ i. absurd (omega (arith, z, i, six)); sink_fault = λ f. absurd (omega (arith, f, six)); front = λ f. absurd (omega (arith, f, six)); no_memory = λ s. kept }

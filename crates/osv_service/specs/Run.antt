@@ -9,7 +9,8 @@ use Rattle.ask.specs.Checked.{checked}
 use Rattle.ask.specs.Outputs.{within}
 use Rattle.ask.specs.declared.output.Output.{Output}
 use Rattle.command_line.specs.declared.command.Command.{Command}
-use Rattle.command_line.specs.declared.command.Command.TheVariants.{Ask, Check, Replay, Serve}
+use Rattle.command_line.specs.declared.command.Command.TheVariants.{Ask, Check, Replay, Serve, Drill}
+use Rattle.drill.specs.Drilled.{drilled}
 use Rattle.settings.specs.declared.Settings.{Settings}
 use Rattle.book_model.specs.Desk.{Caller}
 use Rattle.desks.specs.Alone.{new_caller}
@@ -25,13 +26,17 @@ usage = codes "usage: osv_service ask [--input N] ECOSYSTEM NAME [VERSION]\n    
 abbrev pub WritesFront : Option (List ℕ) → Option (List ℕ) → List ℕ → Type 0
 WritesFront old new text = (n : ℕ) × Appends old new (take n text)
 
--- Where the words are no command: the usage text and 2, or the sink's fault, or want of memory and nothing.
-pub record Declines (status : ℕ) (held_old held_new : Option (List ℕ)) (sink_before sink_now : ℕ) : Type 0 where
-  pub answers : (status ≡ 2) ⊎ (status ≡ 4) ⊎ (status ≡ 6)
-  pub whole : status ≡ 2 → Appends held_old held_new usage
+-- A text and the status that it goes with, or the sink's fault, or want of memory and nothing.
+pub record Prints (text : List ℕ) (its status : ℕ) (held_old held_new : Option (List ℕ)) (sink_before sink_now : ℕ) : Type 0 where
+  pub answers : (status ≡ its) ⊎ (status ≡ 4) ⊎ (status ≡ 6)
+  pub whole : status ≡ its → Appends held_old held_new text
   pub sink_fault : status ≡ 4 → Rose sink_before sink_now
-  pub front : status ≡ 4 → WritesFront held_old held_new usage
+  pub front : status ≡ 4 → WritesFront held_old held_new text
   pub no_memory : status ≡ 6 → Keeps held_old held_new
+
+-- where the words are no command: the usage text and 2
+abbrev pub Declines : ℕ → Option (List ℕ) → Option (List ℕ) → ℕ → ℕ → Type 0
+Declines status held_old held_new sink_before sink_now = Prints usage 2 status held_old held_new sink_before sink_now
 
 -- what the source has left and its count of faults are as before
 abbrev pub Untouched : Option (List ℕ) → Option (List ℕ) → ℕ → ℕ → Type 0
@@ -86,6 +91,8 @@ Does (Replay settings) status left_old left_new held_old held_new source_before 
     ⊎ FailsFirst status left_old left_new held_old held_new source_before source_now
 Does (Serve settings lanes helpers address) status left_old left_new held_old held_new source_before source_now sink_before sink_now =
     Declines status held_old held_new sink_before sink_now × Untouched left_old left_new source_before source_now
+Does (Drill seed size) status left_old left_new held_old held_new source_before source_now sink_before sink_now =
+    Prints (drilled seed size) 0 status held_old held_new sink_before sink_now × Untouched left_old left_new source_before source_now
 
 -- the output was written, or a front of it
 pub record Writes (o : Output) (status : ℕ) (held_old held_new : Option (List ℕ)) (sink_before sink_now : ℕ) : Type 0 where

@@ -2,7 +2,7 @@
 use Rattle.std.specs.Prelude.{◌≡◌, ◌⊎◌, ℕ, Option, Some, None}
 use Rattle.edge_io.specs.Causes.{Rose}
 use Rattle.command_line.specs.declared.command.Command.{Command}
-use Rattle.command_line.specs.declared.command.Command.TheVariants.{Ask, Check, Replay, Serve}
+use Rattle.command_line.specs.declared.command.Command.TheVariants.{Ask, Check, Replay, Serve, Drill}
 use Rattle.serving.specs.Serving.{HasEnded}
 
 -- the words are those of `serve`
@@ -11,6 +11,7 @@ IsService None = ⊥
 IsService (Some (Ask subject input)) = ⊥
 IsService (Some (Check input)) = ⊥
 IsService (Some (Replay settings)) = ⊥
+IsService (Some (Drill seed size)) = ⊥
 IsService (Some (Serve settings lanes helpers address)) = Unit {0}
 
 -- All lanes ended, or the words were none of `serve`, or the address could not be opened, or memory was missing.

@@ -1,15 +1,17 @@
-ghost use Rattle.std.specs.Prelude.{◌≡◌, ◌≢◌, ◌≤◌, ◌⊎◌, None, Some, map, IfOk, string_bytes};
+ghost use Rattle.std.specs.Prelude.{◌≡◌, ◌≢◌, ◌<◌, ◌≤◌, ◌⊎◌, None, Some, map, IfOk, string_bytes};
 ghost use Rattle.std.specs.Io.KnownBytes.{Appends};
 ghost use Rattle.edge_io.specs.Causes.{Rose};
 ghost use Rattle.command_line.specs.Commands.{command, IsInRange};
+ghost use Rattle.drill.specs.Drilled.{drilled};
 ghost use Rattle.settings.specs.Ranges.{AreInRange};
 ghost use Rattle.session_model.specs.Sessions.{IsWriteFault};
 ghost use Rattle.session_model.specs.declared.end.End.TheVariants.{ReadFault};
-ghost use Rattle.osv_service.specs.Run.{Declines, Does, Ends, FailsFirst, Replays, Untouched, WritesFront, status_behind};
+ghost use Rattle.osv_service.specs.Run.{Declines, Does, Ends, FailsFirst, Prints, Replays, Untouched, WritesFront, status_behind};
 
 use ask::Output;
 use command_line::{Command, read};
 use desks::OwnDesk;
+use drill::drill;
 use edge_io::{Sink, Source, write_whole};
 use gate::OpenGate;
 use http_session::{End, serve_session};
@@ -70,6 +72,7 @@ fn done<S: Source, K: Sink, L: Ledger>(
         }
         Command::Replay(settings) => replay(alloc, settings, source, sink, steps),
         Command::Serve { .. } => decline(sink),
+        Command::Drill { seed, size } => drilled(alloc, *seed, *size, sink, steps),
     }
 }
 
@@ -91,6 +94,23 @@ fn replay<S: Source, K: Sink, L: Ledger>(
     };
     let session = serve_session(alloc, &mut desk, &OpenGate, source, sink, settings, steps);
     status_behind(session.end)
+}
+
+// Writes the line of a drill.
+fn drilled<K: Sink, L: Ledger>(
+    alloc: Global,
+    seed: u64,
+    size: u32,
+    sink: &mut K,
+    steps: &mut Steps<L>,
+) -> u8
+    requires { 0 < size }
+    ensures { Prints (drilled seed size) 0 result (K.held sink.old) (K.held sink.new) (K.faults sink.old) (K.faults sink.new) }
+{
+    match drill(alloc, seed, size, steps) {
+        Ok(line) => write_out(sink, line.as_bytes(), 0),
+        Err(_) => 6,
+    }
 }
 
 fn status_behind(end: End) -> u8

@@ -69,7 +69,8 @@ fn by_command<L: Listener, G: Gate, R: Threads + Wait + Sync>(
                 gate,
             )
         }
-        Command::Ask { .. } | Command::Check { .. } | Command::Replay(_) => 2,
+        Command::Ask { .. } | Command::Check { .. } | Command::Replay(_) | Command::Drill { .. } =>
+            2,
     }
 }
 

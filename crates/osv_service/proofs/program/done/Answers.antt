@@ -2,7 +2,7 @@ use Rattle.std.proofs.Common.{refl}
 use Rattle.ask.specs.Asked.{asked}
 use Rattle.ask.specs.Checked.{checked}
 use Rattle.ask.specs.Outputs.{within}
-use Rattle.osv_service.proofs.Ending.{answers_by, does_ask, does_check, does_replay, does_serve}
+use Rattle.osv_service.proofs.Ending.{answers_by, does_ask, does_check, does_replay, does_serve, does_drill}
 use Rattle.osv_service.proofs.program.done.Goals as goal
 
 pub returns-in-Ask : goal.returns-in-Ask
@@ -23,3 +23,8 @@ returns-in-Replay g c =
 pub returns-in-Serve : goal.returns-in-Serve
 returns-in-Serve g c =
     does_serve c.args.command.now c.in-Serve.settings c.in-Serve.lanes c.in-Serve.helpers c.in-Serve.address c.decline.result _ _ _ _ _ _ _ _ c.in-Serve.is (c.decline.ensures, (refl, refl))
+
+pub returns-in-Drill : goal.returns-in-Drill
+returns-in-Drill g c =
+    does_drill c.args.command.now c.in-Drill.seed c.in-Drill.size c.drilled.result (g.S.Source.left c.args.source.now) (g.S.Source.left c.args.source.now) (g.K.Sink.held c.args.sink.now) (g.K.Sink.held c.drilled.new.sink)
+    (g.S.Source.faults c.args.source.now) (g.S.Source.faults c.args.source.now) (g.K.Sink.faults c.args.sink.now) (g.K.Sink.faults c.drilled.new.sink) c.in-Drill.is (refl, refl) c.drilled.ensures

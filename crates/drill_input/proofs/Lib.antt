@@ -1,0 +1,4 @@
+pub mod Ids
+pub mod Picking
+pub mod Pushing
+pub mod Drawing

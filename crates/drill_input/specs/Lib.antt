@@ -1,0 +1,4 @@
+pub mod Draws
+pub mod Commits
+pub mod Advisories
+pub mod Questions
