@@ -19,7 +19,7 @@ use Rattle.command_line.specs.declared.command.Command.TheVariants as of
 use Rattle.command_line.specs.declared.table.CommandName.{CommandName}
 use Rattle.command_line.specs.declared.table.CommandName.TheVariants.{Ask, Check, Replay, Serve, Drill}
 use Rattle.command_line.specs.declared.table.OptionName.{OptionName}
-use Rattle.command_line.specs.declared.table.OptionName.TheVariants.{Input, Keep, Page, Weight, Commits, Body, Requests, ServeRequests, Lanes, Helpers}
+use Rattle.command_line.specs.declared.table.OptionName.TheVariants.{Input, Keep, Page, Weight, Commits, Body, Stream, Requests, ServeRequests, Lanes, Helpers}
 use Rattle.command_line.specs.declared.table.Takes.{Takes}
 use Rattle.command_line.specs.declared.table.Takes.TheVariants.{Number}
 use Rattle.command_line.specs.Table as table
@@ -53,9 +53,9 @@ number_of o = number_by (option_row o)
 -- the settings, where those that no option says are the defaults; that of the requests is the option's of the command
 abbrev pub settings_of : OptionName → List Row → Option Settings
 settings_of asked rows =
-    option_and_then (λ keep. option_and_then (λ page. option_and_then (λ weight. option_and_then (λ commits. option_and_then (λ body. option_map (λ requests.
-    record { weight = weight; body = body; requests = requests; keep = keep; page = page; commits = commits })
-    (number_of asked rows)) (number_of Body rows)) (number_of Commits rows)) (number_of Weight rows)) (number_of Page rows)) (number_of Keep rows)
+    option_and_then (λ keep. option_and_then (λ page. option_and_then (λ weight. option_and_then (λ commits. option_and_then (λ body. option_and_then (λ stream. option_map (λ requests.
+    record { weight = weight; body = body; stream = stream; requests = requests; keep = keep; page = page; commits = commits })
+    (number_of asked rows)) (number_of Stream rows)) (number_of Body rows)) (number_of Commits rows)) (number_of Weight rows)) (number_of Page rows)) (number_of Keep rows)
 
 -- ---- operands
 
@@ -117,7 +117,7 @@ ask_of rows = option_and_then (λ input. option_map (λ subject. of.Ask subject 
 abbrev pub check_of : List Row → Option Command
 check_of rows = option_and_then (λ input. if is_bare (operands rows) then Some (of.Check input) else None) (number_of Input rows)
 
--- [--keep N] [--page N] [--weight N] [--commits N] [--body N] [--requests N]
+-- [--keep N] [--page N] [--weight N] [--commits N] [--body N] [--stream N] [--requests N]
 abbrev pub replay_of : List Row → Option Command
 replay_of rows = option_and_then (λ settings. if is_bare (operands rows) then Some (of.Replay settings) else None) (settings_of Requests rows)
 

@@ -1,12 +1,12 @@
 -- The commands and options of the command line (our own).
 use Rattle.std.specs.Prelude.{ℕ, List, [], ◌∷◌, Option, Some, None, if◌then◌else◌, codes}
 use Rattle.std.specs.Str.{bytes_eq}
-use Rattle.settings.specs.declared.TheConstants.{MAX_BODY_BYTES, MAX_COMMITS, MAX_INPUT_BYTES, MAX_KEEP, MAX_PAGE, MAX_REQUESTS, MAX_WEIGHT, MIN_WEIGHT}
+use Rattle.settings.specs.declared.TheConstants.{MAX_BODY_BYTES, MAX_COMMITS, MAX_INPUT_BYTES, MAX_KEEP, MAX_PAGE, MAX_REQUESTS, MAX_STREAM_BYTES, MAX_WEIGHT, MIN_WEIGHT}
 use Rattle.command_line.specs.declared.command.TheConstants.{MAX_HELPERS, MAX_LANES}
 use Rattle.command_line.specs.declared.table.CommandName.{CommandName}
 use Rattle.command_line.specs.declared.table.CommandName.TheVariants.{Ask, Check, Replay, Serve, Drill}
 use Rattle.command_line.specs.declared.table.OptionName.{OptionName}
-use Rattle.command_line.specs.declared.table.OptionName.TheVariants.{Commit, Input, Keep, Page, Weight, Commits, Body, Requests, ServeRequests, Lanes, Helpers}
+use Rattle.command_line.specs.declared.table.OptionName.TheVariants.{Commit, Input, Keep, Page, Weight, Commits, Body, Stream, Requests, ServeRequests, Lanes, Helpers}
 use Rattle.command_line.specs.declared.table.OptionRow.{OptionRow}
 use Rattle.command_line.specs.declared.table.Takes.{Takes}
 use Rattle.command_line.specs.declared.table.Takes.TheVariants.{Text, Number}
@@ -31,6 +31,7 @@ option_row Page = row (codes "page") (Number 1 MAX_PAGE 100)
 option_row Weight = row (codes "weight") (Number MIN_WEIGHT MAX_WEIGHT 1073741824)
 option_row Commits = row (codes "commits") (Number 1 MAX_COMMITS MAX_COMMITS)
 option_row Body = row (codes "body") (Number 1 MAX_BODY_BYTES MAX_BODY_BYTES)
+option_row Stream = row (codes "stream") (Number 1 MAX_STREAM_BYTES MAX_STREAM_BYTES)
 option_row Requests = row (codes "requests") (Number 1 MAX_REQUESTS MAX_REQUESTS)
 option_row ServeRequests = row (codes "requests") (Number 1 MAX_REQUESTS 1000)
 option_row Lanes = row (codes "lanes") (Number 1 MAX_LANES 4)
@@ -40,8 +41,8 @@ option_row Helpers = row (codes "helpers") (Number 0 MAX_HELPERS 2)
 abbrev pub options_of : CommandName → List OptionName
 options_of Ask = Input ∷ Commit ∷ []
 options_of Check = Input ∷ []
-options_of Replay = Keep ∷ Page ∷ Weight ∷ Commits ∷ Body ∷ Requests ∷ []
-options_of Serve = Keep ∷ Page ∷ Weight ∷ Commits ∷ Body ∷ ServeRequests ∷ Lanes ∷ Helpers ∷ []
+options_of Replay = Keep ∷ Page ∷ Weight ∷ Commits ∷ Body ∷ Stream ∷ Requests ∷ []
+options_of Serve = Keep ∷ Page ∷ Weight ∷ Commits ∷ Body ∷ Stream ∷ ServeRequests ∷ Lanes ∷ Helpers ∷ []
 options_of Drill = []
 
 -- the command that a word names

@@ -4,8 +4,8 @@ ghost use Rattle.command_line.specs.Table.{command_named, option_row, options_of
 
 use crate::command::{MAX_HELPERS, MAX_LANES};
 use settings::{
-    MAX_BODY_BYTES, MAX_COMMITS, MAX_INPUT_BYTES, MAX_KEEP, MAX_PAGE, MAX_REQUESTS, MAX_WEIGHT,
-    MIN_WEIGHT,
+    MAX_BODY_BYTES, MAX_COMMITS, MAX_INPUT_BYTES, MAX_KEEP, MAX_PAGE, MAX_REQUESTS,
+    MAX_STREAM_BYTES, MAX_WEIGHT, MIN_WEIGHT,
 };
 
 /// An option.
@@ -18,6 +18,7 @@ pub enum OptionName {
     Weight,
     Commits,
     Body,
+    Stream,
     Requests,
     /// `Requests` at `serve`, where it has another default.
     ServeRequests,
@@ -62,6 +63,7 @@ pub fn option_row(option: OptionName) -> OptionRow
         OptionName::Weight => row("weight", number(MIN_WEIGHT, MAX_WEIGHT, 1_073_741_824)),
         OptionName::Commits => row("commits", number(1, MAX_COMMITS as u64, MAX_COMMITS as u64)),
         OptionName::Body => row("body", number(1, MAX_BODY_BYTES, MAX_BODY_BYTES)),
+        OptionName::Stream => row("stream", number(1, MAX_STREAM_BYTES, MAX_STREAM_BYTES)),
         OptionName::Requests => row("requests", number(1, MAX_REQUESTS, MAX_REQUESTS)),
         OptionName::ServeRequests => row("requests", number(1, MAX_REQUESTS, 1_000)),
         OptionName::Lanes => row("lanes", number(1, MAX_LANES, 4)),
@@ -89,21 +91,23 @@ static ASK: [OptionName; 2] = [OptionName::Input, OptionName::Commit];
 
 static CHECK: [OptionName; 1] = [OptionName::Input];
 
-static REPLAY: [OptionName; 6] = [
+static REPLAY: [OptionName; 7] = [
     OptionName::Keep,
     OptionName::Page,
     OptionName::Weight,
     OptionName::Commits,
     OptionName::Body,
+    OptionName::Stream,
     OptionName::Requests,
 ];
 
-static SERVE: [OptionName; 8] = [
+static SERVE: [OptionName; 9] = [
     OptionName::Keep,
     OptionName::Page,
     OptionName::Weight,
     OptionName::Commits,
     OptionName::Body,
+    OptionName::Stream,
     OptionName::ServeRequests,
     OptionName::Lanes,
     OptionName::Helpers,

@@ -124,10 +124,12 @@ fn settings_of(matches: &ArgMatches<'_>, asked: OptionName) -> Option<Settings>
     let weight = number_of(matches, OptionName::Weight)?;
     let commits = number_of(matches, OptionName::Commits)?;
     let body = number_of(matches, OptionName::Body)?;
+    let stream = number_of(matches, OptionName::Stream)?;
     let requests = number_of(matches, asked)?;
     Some(Settings {
         weight,
         body,
+        stream,
         requests,
         keep: keep as u32,
         page: page as u32,

@@ -27,6 +27,9 @@ pub const MAX_COMMITS: u32 = 16_777_216;
 /// The most bytes of a request's body; at least one is taken.
 pub const MAX_BODY_BYTES: u64 = 268_435_456;
 
+/// The most bytes of a stream's body; at least one is taken.
+pub const MAX_STREAM_BYTES: u64 = 8_589_934_592;
+
 /// The most requests in a session; at least one is answered.
 pub const MAX_REQUESTS: u64 = 1_000_000;
 
@@ -40,6 +43,8 @@ pub struct Settings {
     pub weight: u64,
     /// Bytes of a request's body, from 1 to 268,435,456.
     pub body: u64,
+    /// Bytes of a body at the path of streams, from 1 to 8,589,934,592.
+    pub stream: u64,
     /// Requests in a session, from 1 to 1,000,000.
     pub requests: u64,
     /// Snapshots that are kept, from 1 to 1,000.
@@ -59,6 +64,7 @@ impl Default for Settings {
         Settings {
             weight: 1_073_741_824,
             body: MAX_BODY_BYTES,
+            stream: MAX_STREAM_BYTES,
             requests: MAX_REQUESTS,
             keep: 8,
             page: 100,

@@ -9,6 +9,7 @@ returns c = record {
   twice = refl;
   without_value = refl;
   below_its_range = refl;
+  above_the_stream = refl;
   below_its_least = refl;
   above_its_range = refl;
   of_another_command = refl;
