@@ -21,6 +21,7 @@ mod oid;
 mod package;
 mod read_version;
 mod repo;
+mod short;
 mod steps;
 mod stop;
 mod subject;

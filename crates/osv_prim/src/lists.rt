@@ -1,4 +1,4 @@
-ghost use Rattle.std.specs.Prelude.{◌≡◌, ◌<◌, ◌≤◌, ◌++◌, ◌∷◌, [], ◌↔◌, IfOk, OnOk, OnErr, IsTrue, length, option_map, position, slice_get, slice_index_or, sum_by};
+ghost use Rattle.std.specs.Prelude.{◌≡◌, ◌<◌, ◌≤◌, ◌+◌, ◌++◌, ◌∷◌, [], ◌↔◌, IfOk, OnOk, OnErr, IsTrue, length, option_map, position, slice_get, slice_index_or, sum_by};
 ghost use Rattle.std.specs.List.{list_any, position_from};
 ghost use Rattle.std.specs.Str.{bytes_eq};
 ghost use Rattle.osv_prim.specs.Lists.{pieces, IsCut};
@@ -8,12 +8,13 @@ use std::alloc::Global;
 use std::marker::Model;
 
 /// Lists in a row, as the texts of a list or the parents of commits, which contracts see as a list of
-/// lists. All members stand in one block, so a hundred lists cost no more allocations than a few.
+/// lists. All members stand in one block, so a hundred lists cost no more allocations than a few, and a
+/// list costs 4 bytes beside its members. They have fewer than 2^32 members in all.
 #[derive(Debug, Drop)]
 pub struct Lists<T> {
     items: Vec<T>,
     // Where each list ends in the block.
-    ends: Vec<usize>,
+    ends: Vec<u32>,
 }
 
 impl<T> Model for Lists<T> {
@@ -91,7 +92,8 @@ impl<T> Lists<T> {
         }
     }
 
-    /// Puts a copy of a list at the end. Only memory can fail, and the lists are then as they were.
+    /// Puts a copy of a list at the end. Only memory can fail, for which 2^32 members in all count too,
+    /// and the lists are then as they were.
     pub fn push(&mut self, list: &[T]) -> Result<(), Memory>
     where
         T: Copy,
@@ -118,15 +120,26 @@ impl Lists<u8> {
     }
 }
 
-fn push_list<T: Copy>(items: &mut Vec<T>, ends: &mut Vec<usize>, list: &[T]) -> Result<(), Memory>
+// Where a list behind so many members ends.
+fn end_of(start: usize, count: usize) -> Result<u32, Memory>
+    ensures { IfOk result (λ end. end ≡ start + count) }
+{
+    match start.checked_add(count) {
+        Some(end) => u32::try_from(end).map_err(|_| Memory),
+        None => Err(Memory),
+    }
+}
+
+fn push_list<T: Copy>(items: &mut Vec<T>, ends: &mut Vec<u32>, list: &[T]) -> Result<(), Memory>
     ensures items { OnOk result (items.new.items ≡ items.old.items ++ list.now) }
     ensures ends { OnOk result (ends.new.items ≡ ends.old.items ++ length items.new.items ∷ []) }
     ensures items_stay { OnErr result (items.new.items ≡ items.old.items) }
     ensures ends_stay { OnErr result (ends.new.items ≡ ends.old.items) }
 {
     let start = items.len();
+    let end = end_of(start, list.len())?;
     items.extend_from_slice(list)?;
-    match ends.push(items.len()) {
+    match ends.push(end) {
         Ok(()) => Ok(()),
         Err(_) => {
             items.truncate(start);
@@ -135,25 +148,29 @@ fn push_list<T: Copy>(items: &mut Vec<T>, ends: &mut Vec<usize>, list: &[T]) -> 
     }
 }
 
-fn list_at<'a, T>(items: &'a [T], ends: &[usize], index: usize) -> &'a [T]
+fn list_at<'a, T>(items: &'a [T], ends: &[u32], index: usize) -> &'a [T]
     requires cut { IsCut 0 ends.now (length items.now) }
     requires there { index < length ends.now }
     ensures { result.now ≡ slice_index_or (pieces 0 ends.now items.now) index [] }
 {
     let start = start_of(ends, index);
-    let end = ends[index];
+    let end = ends[index] as usize;
     &items[start..end]
 }
 
 // Where the list at an index starts.
-fn start_of(ends: &[usize], index: usize) -> usize
+fn start_of(ends: &[u32], index: usize) -> usize
     requires { index ≤ length ends.now }
     ensures { result ≡ slice_index_or (0 ∷ ends.now) index 0 }
 {
-    if index == 0 { 0 } else { ends[index - 1] }
+    if index == 0 {
+        0
+    } else {
+        ends[index - 1] as usize
+    }
 }
 
-fn position_in(bytes: &[u8], ends: &[usize], text: &[u8]) -> Option<usize>
+fn position_in(bytes: &[u8], ends: &[u32], text: &[u8]) -> Option<usize>
     requires { IsCut 0 ends.now (length bytes.now) }
     ensures { result ≡ position_from (bytes_eq text.now) 0 (pieces 0 ends.now bytes.now) }
 {
@@ -161,10 +178,11 @@ fn position_in(bytes: &[u8], ends: &[usize], text: &[u8]) -> Option<usize>
     let mut index = 0;
     let mut rest = ends;
     while let [end, after @ ..] = rest {
-        if text == &bytes[start..*end] {
+        let end = *end as usize;
+        if text == &bytes[start..end] {
             return Some(index);
         }
-        start = *end;
+        start = end;
         index += 1;
         rest = after;
     }

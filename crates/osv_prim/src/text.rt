@@ -6,83 +6,91 @@ ghost use Rattle.std.proofs.Common.{rules};
 ghost use Rattle.std.specs.Cmp.Rules.{hashing};
 
 use crate::memory::Memory;
+use crate::short::{SHORT, Short};
 use std::alloc::Global;
 use std::cmp::Ordering;
 use std::hash::{Hash, Hasher};
 use std::marker::Model;
 
-/// A text in UTF-8 on the heap, which contracts see as the list of its bytes. Texts are compared and
-/// ordered byte by byte, and a text that is another's front is below it.
+// Where the bytes of a text stand.
+#[derive(Debug, Drop)]
+enum Held {
+    Short(Short),
+    Long(Box<String>),
+}
+
+/// A text in UTF-8, which contracts see as the list of its bytes. One of at most 22 bytes stands in the
+/// value itself, 24 bytes in all, and takes no memory beside it. Texts are compared and ordered byte by
+/// byte, and a text that is another's front is below it.
 #[derive(Debug, Drop)]
 pub struct Text {
-    text: String,
+    held: Held,
 }
 
 impl Model for Text {
-    ghost use Rattle.std.specs.Prelude.{List, ℕ, string_bytes};
+    ghost use Rattle.std.specs.Prelude.{List, ℕ};
+    ghost use Rattle.osv_prim.specs.Texts.{held_bytes};
 
     ghost Value = { List ℕ };
 
-    ghost view = { λ t. string_bytes t.text };
+    ghost view = { λ t. held_bytes t.held };
 }
 
 impl Text {
-    /// A string as a text, without a copy.
-    pub fn from_string(text: String) -> Text
-        ensures { result ≡ string_bytes text }
-    {
-        Text { text }
-    }
-
-    /// A copy of a text, in one allocation. Only memory can fail.
+    /// A copy of a text. Only memory can fail.
     pub fn copy_of(alloc: Global, text: &str) -> Result<Text, Memory>
         ensures { IfOk result (λ t. t ≡ text.now) }
     {
+        if text.len() <= SHORT {
+            return Ok(Text {
+                held: Held::Short(Short::copy_of(text)),
+            });
+        }
+        let text = String::from_str(alloc, text)?;
         Ok(Text {
-            text: String::from_str(alloc, text)?,
+            held: Held::Long(Box::new(alloc, text)?),
         })
     }
 
-    /// A copy of the text, in one allocation. Only memory can fail.
+    /// A copy of the text. Only memory can fail.
     pub fn copy(&self, alloc: Global) -> Result<Text, Memory>
         ensures { IfOk result (λ t. t ≡ self.now) }
     {
         Text::copy_of(alloc, self.as_str())
     }
 
-    /// The string that holds the text, without a copy.
-    pub fn into_string(self) -> String
-        ensures { string_bytes result ≡ self }
-    {
-        self.text
-    }
-
     /// The text.
     pub fn as_str(&self) -> &str
         ensures { result.now ≡ self.now }
     {
-        self.text.as_str()
+        match &self.held {
+            Held::Short(short) => short.as_str(),
+            Held::Long(text) => text.as_str(),
+        }
     }
 
     /// The bytes of the text.
     pub fn as_bytes(&self) -> &[u8]
         ensures { result.now ≡ self.now }
     {
-        self.text.as_bytes()
+        match &self.held {
+            Held::Short(short) => short.as_bytes(),
+            Held::Long(text) => text.as_bytes(),
+        }
     }
 
     /// How many bytes the text has.
     pub fn len(&self) -> usize
         ensures { result ≡ length self.now }
     {
-        self.text.len()
+        self.as_bytes().len()
     }
 
     /// Whether it has no byte.
     pub fn is_empty(&self) -> bool
         ensures { IsTrue result ↔ (length self.now ≡ 0) }
     {
-        self.text.is_empty()
+        self.as_bytes().is_empty()
     }
 }
 

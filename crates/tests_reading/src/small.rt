@@ -8,7 +8,7 @@ use std::alloc::{AllocError, Global};
 fn lists(alloc: Global) -> Result<u64, Memory> {
     let mut texts = List::with_capacity(alloc, 2)?;
     texts.push(Text::copy_of(alloc, "a")?)?;
-    texts.push(Text::from_string(String::from_str(alloc, "b")?))?;
+    texts.push(Text::copy_of(alloc, "a text of thirty-one bytes here")?)?;
     let bytes = Bytes::copy_of(alloc, b"abc")?;
     Ok(bytes.len() as u64 + texts.len() as u64)
 }

@@ -16,7 +16,8 @@ fn value_of(alloc: Global, name: &str) -> Result<Text, Memory> {
     if name == "0" || name == "*" || name.starts_with('?') {
         return Text::copy_of(alloc, name);
     }
-    Ok(Text::from_string(format!(in alloc; "{name:0>40}")?))
+    let digits = format!(in alloc; "{name:0>40}")?;
+    Text::copy_of(alloc, digits.as_str())
 }
 
 /// An event of a kind that names a commit.
