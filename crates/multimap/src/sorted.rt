@@ -1,4 +1,5 @@
-ghost use Rattle.std.specs.Prelude.{◌≡◌, IfOk, OnOk};
+ghost use Rattle.std.specs.Prelude.{◌≡◌, Bool, length, IfOk, OnOk};
+ghost use Rattle.std.specs.List.{list_any, zip};
 ghost use Rattle.std.specs.List.Sorted.{IsSortedByKey};
 ghost use Rattle.multimap.specs.Entries.{values_of};
 
@@ -31,7 +32,8 @@ impl<K: Ord + Drop, V: Drop> Multimap<K, V> {
     /// The map with these entries, of which those with one key keep their order. It takes O(n log n)
     /// comparisons.
     pub fn build(alloc: Global, mut entries: Vec<(K, V)>) -> Result<Multimap<K, V>, Memory>
-        ensures { IfOk result (λ m. (key : K) → values_of K.cmp m key ≡ values_of K.cmp entries.items key) }
+        ensures values { IfOk result (λ m. (key : K) → values_of K.cmp m key ≡ values_of K.cmp entries.items key) }
+        ensures any { IfOk result (λ m. (test : K × V → Bool) → list_any test m ≡ list_any test entries.items) }
     {
         sort(&mut entries)?;
         split(alloc, entries)
@@ -44,11 +46,20 @@ impl<K: Ord + Drop, V: Drop> Multimap<K, V> {
     {
         values_at(self.keys.as_slice(), self.values.as_slice(), key)
     }
+
+    /// The keys of all entries, in order, and the values beside them.
+    pub fn entries(&self) -> (&[K], &[V])
+        ensures entries { zip result.0.now result.1.now ≡ self.now }
+        ensures size { length result.1.now ≡ length result.0.now }
+    {
+        (self.keys.as_slice(), self.values.as_slice())
+    }
 }
 
 fn sort<K: Ord, V>(entries: &mut Vec<(K, V)>) -> Result<(), Memory>
     ensures sorted { OnOk result (IsSortedByKey (λ e. e.0) K.cmp entries.new.items) }
     ensures same { OnOk result ((key : K) → values_of K.cmp entries.new.items key ≡ values_of K.cmp entries.old.items key) }
+    ensures any { (test : K × V → Bool) → list_any test entries.new.items ≡ list_any test entries.old.items }
 {
     entries.sort_by(|a, b| a.0.cmp(&b.0))?;
     Ok(())

@@ -1,13 +1,14 @@
 -- Entries in order, once each, and what they have under a name and an ecosystem.
-use Rattle.std.proofs.Common.{◌≡◌, ℕ, ◌<◌, inl, inr, Bool, true, false, cond, ◌&&◌, ◌||◌, eqb, List, [], ◌∷◌, map, filter, Option, Some, None, Ordering, Less, Equal, Greater, refl, sym, ap, ◌∙◌, arith}
+use Rattle.std.proofs.Common.{◌≡◌, ℕ, ◌<◌, inl, inr, Bool, true, false, cond, not, ◌&&◌, ◌||◌, eqb, ltb, List, get_or, [], ◌∷◌, map, filter, Option, Some, None, Ordering, Less, Equal, Greater, refl, sym, ap, ◌∙◌, arith}
 use Rattle.std.specs.List.{list_any, dedup, dedup_from, AllByRecursion}
 use Rattle.std.specs.List.Sorted.{IsStrictlySortedBy}
 use Rattle.std.specs.Cmp.{ranks}
 use Rattle.std.specs.Ordering.{is_eq, nat_cmp, ordering_then, MatchOrdering}
-use Rattle.std.proofs.lemmas.Bool.{cases_Bool, and_parts, eq-eqb, ne_eqb, eqb-true, false≢true}
+use Rattle.std.proofs.lemmas.Bool.{cases_Bool, and_parts, eq-eqb, ne_eqb, eqb-true, lt-ltb, ltb-true, false≢true}
+use Rattle.std.proofs.lemmas.List.Folds.{list_any_none, list_any_at}
 use Rattle.multimap.specs.Entries.{values_of}
 use Rattle.package_index.specs.Index.{key_cmp, under}
-use Rattle.package_index.specs.Noted.{is_entry, noted_at}
+use Rattle.package_index.specs.Noted.{is_entry, noted_at, AreGiven}
 use Rattle.package_index.proofs.Rising.{has, AllAbove}
 use Rattle.package_index.proofs.Noting.{Entries}
 
@@ -137,3 +138,28 @@ alike-entries n m i x y same =
     let keys = and_parts (eqb x.0.0 y.0.0) (eqb x.0.1 y.0.1) all.0 in
     ap (λ (k : ℕ). (eqb k n && eqb x.0.1 m) && eqb x.1 i) (eqb-true x.0.0 y.0.0 keys.0) ∙ ap (λ (k : ℕ). (eqb y.0.0 n && eqb k m) && eqb x.1 i) (eqb-true x.0.1 y.0.1 keys.1)
     ∙ ap (λ (k : ℕ). (eqb y.0.0 n && eqb y.0.1 m) && eqb k i) (eqb-true x.1 y.1 all.1)
+
+abbrev as-entry : ℕ → ℕ → ℕ → (ℕ × ℕ) × ℕ
+as-entry a b c = ((a, b), c)
+
+-- whatever is said of them
+pub one-entry : (x y : (ℕ × ℕ) × ℕ) → ((eqb x.0.0 y.0.0 && eqb x.0.1 y.0.1) && eqb x.1 y.1) ≡ true → x ≡ y
+one-entry x y same =
+    let all = and_parts (eqb x.0.0 y.0.0 && eqb x.0.1 y.0.1) (eqb x.1 y.1) same in
+    let keys = and_parts (eqb x.0.0 y.0.0) (eqb x.0.1 y.0.1) all.0 in
+    ap (λ (a : ℕ). as-entry a x.0.1 x.1) (eqb-true x.0.0 y.0.0 keys.0) ∙ ap (λ (b : ℕ). as-entry y.0.0 b x.1) (eqb-true x.0.1 y.0.1 keys.1) ∙ ap (λ (c : ℕ). as-entry y.0.0 y.0.1 c) (eqb-true x.1 y.1 all.1)
+
+-- entries with the same members have numbers that were given
+pub given-same : (names ecosystems : ℕ) (es fs : Entries) → ((test : (ℕ × ℕ) × ℕ → Bool) → list_any test fs ≡ list_any test es) → AreGiven names ecosystems es → AreGiven names ecosystems fs
+given-same names ecosystems es fs same given k d lt =
+    let within = λ (x : (ℕ × ℕ) × ℕ). ltb x.0.0 names && ltb x.0.1 ecosystems in
+    let e = get_or fs k d in
+    let none : list_any (λ x. not (within x)) es ≡ false =
+    list_any_none (λ x. not (within x)) es
+    (λ j f low. let x = get_or es j f in
+    ap (λ (b : Bool). not (b && ltb x.0.1 ecosystems)) (lt-ltb x.0.0 names (given j f low).0) ∙ ap not (lt-ltb x.0.1 ecosystems (given j f low).1))
+    in
+    elim (cases_Bool (within e)) [
+      | inl so ↦ let parts = and_parts (ltb e.0.0 names) (ltb e.0.1 ecosystems) so in (ltb-true e.0.0 names parts.0, ltb-true e.0.1 ecosystems parts.1)
+      | inr not_so ↦ absurd (false≢true (sym none ∙ sym (same (λ x. not (within x))) ∙ list_any_at (λ x. not (within x)) fs k d lt (ap not not_so)))
+    ]

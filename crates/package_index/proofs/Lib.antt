@@ -3,3 +3,5 @@ pub mod Noting
 pub mod Matching
 pub mod Rising
 pub mod Grouping
+pub mod Kept
+pub mod Renewing

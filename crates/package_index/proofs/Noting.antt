@@ -1,12 +1,12 @@
 -- Advisories that are noted under texts that have numbers.
-use Rattle.std.proofs.Common.{◌≡◌, ℕ, ◌<◌, ◌≤◌, inl, inr, Bool, true, false, ◌&&◌, ◌||◌, eqb, List, [], ◌∷◌, ◌++◌, get_or, All, Option, Some, None, refl, sym, ap, ◌∙◌, arith}
+use Rattle.std.proofs.Common.{◌≡◌, ℕ, ◌<◌, ◌≤◌, inl, inr, Bool, true, false, ◌&&◌, ◌||◌, eqb, List, [], ◌∷◌, ◌++◌, get_or, Option, Some, None, refl, sym, ap, ◌∙◌, arith}
 use Rattle.std.specs.List.{list_any}
 use Rattle.std.specs.Str.{bytes_eq}
 use Rattle.std.proofs.lemmas.Bool.{ne_eqb}
 use Rattle.std.proofs.lemmas.List.Elements.{All-push}
 use Rattle.std.proofs.lemmas.List.Folds.{list_any_none, list_any-append}
 use Rattle.package_index.specs.Numbers.{number_of, IsKept}
-use Rattle.package_index.specs.Noted.{is_entry, noted_at}
+use Rattle.package_index.specs.Noted.{is_entry, noted_at, AreGiven}
 use Rattle.package_index.proofs.Numbering.{same-number, no-number, turned}
 
 and_no : (a : Bool) → (a && false) ≡ false
@@ -19,9 +19,6 @@ or_no false = refl
 
 abbrev pub Entries : Type 0
 Entries = List ((ℕ × ℕ) × ℕ)
-
-abbrev pub AreGiven : ℕ → ℕ → Entries → Type 0
-AreGiven names ecosystems entries = All (λ e. (e.0.0 < names) × (e.0.1 < ecosystems)) entries
 
 module _ (entries : Entries) (names ecosystems : ℕ) (given : AreGiven names ecosystems entries) (i : ℕ) where
   new-name : (ecosystem : Option ℕ) → noted_at entries (Some names) ecosystem i ≡ false

@@ -31,7 +31,7 @@ above a (x ∷ xs) all i h =
       | inr later ↦ above a xs all.1 i later
     ]
 
-absent : (a : ℕ) (xs : List ℕ) → AllAbove a xs → (i : ℕ) → a ≡ i → has xs i ≡ false
+pub absent : (a : ℕ) (xs : List ℕ) → AllAbove a xs → (i : ℕ) → a ≡ i → has xs i ≡ false
 absent a xs all i same = false_from_ne_true (has xs i) (λ h. omega (arith, above a xs all i h, same))
 
 first-is : (x : ℕ) (xs : List ℕ) → has (x ∷ xs) x ≡ true
@@ -67,7 +67,7 @@ one-above : (a i : ℕ) (b : Bool) (xs : List ℕ) → a < i → AllAbove a xs �
 one-above a i true xs lt all = (less a i lt, all)
 one-above a i false xs lt all = all
 
-listed-above : (a i : ℕ) (rs : List Advisory) (asked : PackageKey) → a < i → AllAbove a (listed_from i rs asked)
+pub listed-above : (a i : ℕ) (rs : List Advisory) (asked : PackageKey) → a < i → AllAbove a (listed_from i rs asked)
 listed-above a i [] asked lt = tt
 listed-above a i (r ∷ rs) asked lt = one-above a i (lists asked r) (listed_from (i + 1) rs asked) lt (listed-above a (i + 1) rs asked (omega arith))
 

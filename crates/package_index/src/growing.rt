@@ -4,8 +4,7 @@ ghost use Rattle.osv_prim.specs.Packages.{matches};
 ghost use Rattle.package_index.specs.Listing.{has_package, lists};
 ghost use Rattle.package_index.specs.Noted.{IsSound, noted};
 
-use crate::numbers::number;
-use indexmap::IndexSet;
+use crate::numbers::Texts;
 use osv_prim::{Memory, PackageKey, Text, base_of};
 use osv_record::{Affected, Record};
 use std::alloc::Global;
@@ -14,8 +13,8 @@ use std::alloc::Global;
 /// ecosystem the indexes of advisories.
 #[derive(Drop)]
 pub(crate) struct Growing {
-    pub(crate) names: IndexSet<Text>,
-    pub(crate) ecosystems: IndexSet<Text>,
+    pub(crate) names: Texts,
+    pub(crate) ecosystems: Texts,
     pub(crate) entries: Vec<((u32, u32), u32)>,
 }
 
@@ -84,8 +83,8 @@ fn add(
     ensures sound { OnOk result (IsSound growing.new) }
     ensures noted { OnOk result ((e t : List ℕ) (i : ℕ) → noted growing.new e t i ≡ (noted growing.old e t i || (bytes_eq name.now t && bytes_eq e ecosystem.now && (index == i)))) }
 {
-    let name = number(alloc, &mut growing.names, name)?;
-    let ecosystem = number(alloc, &mut growing.ecosystems, ecosystem)?;
+    let name = growing.names.number_or_add(alloc, name)?;
+    let ecosystem = growing.ecosystems.number_or_add(alloc, ecosystem)?;
     growing.entries.push(((name, ecosystem), index))?;
     Ok(())
 }

@@ -7,6 +7,7 @@
 mod distinct;
 mod growing;
 mod index;
+mod moving;
 mod numbers;
 
 pub use index::PackageIndex;
