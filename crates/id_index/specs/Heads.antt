@@ -1,5 +1,5 @@
 -- The first bytes of ids as numbers that rise as the ids do (our own).
-use Rattle.std.specs.Prelude.{◌≡◌, ℕ, zero, suc, ◌+◌, ◌*◌, ◌<◌, List, [], ◌∷◌, map}
+use Rattle.std.specs.Prelude.{◌≡◌, ℕ, zero, suc, ◌+◌, ◌*◌, ◌<◌, ◌≤◌, List, [], ◌∷◌, length, map, take, slice_get, IfSome}
 use Rattle.std.specs.List.{AllByRecursion}
 use Rattle.osv_record.specs.Advisories.{Advisory}
 use Rattle.impact_job.specs.Order.{ids}
@@ -31,3 +31,13 @@ BeginsWithBytes (suc n) text = (first_byte text < 256) × BeginsWithBytes n (beh
 pub record IsIndexOf (heads : List ℕ) (advisories : List Advisory) : Type 0 where
   pub heads_are : heads ≡ map head (ids advisories)
   pub bytes : AllByRecursion (BeginsWithBytes 16) (ids advisories)
+
+-- they are the heads of the first advisories, as many as there are of them
+pub record AreFirst (heads : List ℕ) (advisories : List Advisory) : Type 0 where
+  pub heads_are : heads ≡ map head (ids (take (length heads) advisories))
+  pub bytes : AllByRecursion (BeginsWithBytes 16) (ids (take (length heads) advisories))
+  pub within : length heads ≤ length advisories
+
+-- it is the head of the advisory at a place, where there is one
+abbrev pub IsHeadAt : ℕ → ℕ → List Advisory → Type 0
+IsHeadAt number place advisories = IfSome (slice_get advisories place) (λ r. (number ≡ head r.id) × BeginsWithBytes 16 r.id)

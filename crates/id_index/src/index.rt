@@ -1,14 +1,17 @@
-ghost use Rattle.std.specs.Prelude.{◌≡◌, ◌≤◌, length, drop, take, map, option_map, IfOk, nat_lt, nat_le, true, false};
+ghost use Rattle.std.specs.Prelude.{◌≡◌, ◌≤◌, List, length, drop, take, map, option_map, slice_get, IfOk, IfSome, OnOk, ◌<◌, nat_lt, nat_le, true, false};
 ghost use Rattle.std.specs.Arc.{arc_value};
 ghost use Rattle.std.specs.List.Sorted.{IsNonDecreasing, IsPartitionPoint};
 ghost use Rattle.impact_job.specs.Order.{Ascend};
+ghost use Rattle.osv_record.specs.Advisories.{Advisory};
+ghost use Rattle.record_moves.specs.Moved.{IsMoved};
 ghost use Rattle.id_index.specs.Found.{IsFoundIn};
-ghost use Rattle.id_index.specs.Heads.{IsIndexOf};
+ghost use Rattle.id_index.specs.Heads.{AreFirst, IsHeadAt, IsIndexOf};
 
 use crate::head::head;
 use impact_job::split_at_id;
 use osv_prim::Memory;
 use osv_record::Record;
+use record_moves::Moves;
 use std::alloc::Global;
 use std::marker::Model;
 use std::sync::Arc;
@@ -42,6 +45,25 @@ impl IdIndex {
         Ok(IdIndex { heads })
     }
 
+    /// The index of a later list of advisories, from this one of an earlier list and where the advisories of
+    /// that are in it. It reads the ids of those that were added. Only memory can fail.
+    pub fn renew(
+        &self,
+        alloc: Global,
+        records: &[Arc<Record>],
+        moves: &Moves,
+    ) -> Result<IdIndex, Memory>
+        ensures { (old : List Advisory) → IsMoved moves.now old (map (λ a. arc_value a) records.now) → IsIndexOf self.now old → IfOk result (λ index. IsIndexOf index (map (λ a. arc_value a) records.now)) }
+    {
+        let mut heads = Vec::with_capacity(alloc, records.len())?;
+        let known = self.heads.as_slice();
+        for index in 0..known.len() {
+            put_known(&mut heads, records, moves.moved.as_slice(), index, known[index])?;
+        }
+        put_heads(&mut heads, records, records.len())?;
+        Ok(IdIndex { heads })
+    }
+
     /// The advisory that has an id, which is given by its bytes, by O(log n) comparisons of numbers, and of ids
     /// only where they begin with the same sixteen bytes. The advisories are those that the index is of, and
     /// have to ascend by their ids.
@@ -57,6 +79,54 @@ impl IdIndex {
         let same = first(later, count_upto(later_heads, wanted));
         split_at_id(same, id).found
     }
+}
+
+// The heads of advisories up to a place, behind those that are there.
+fn put_heads(heads: &mut Vec<u128>, records: &[Arc<Record>], upto: usize) -> Result<(), Memory>
+    requires { upto ≤ length records.now }
+    ensures first { AreFirst heads.old.items (map (λ a. arc_value a) records.now) → OnOk result (AreFirst heads.new.items (map (λ a. arc_value a) records.now)) }
+    ensures count { OnOk result (upto ≤ length heads.new.items) }
+{
+    for place in heads.len()..upto {
+        heads.push(head(records[place].id.as_str().as_bytes()))?;
+    }
+    Ok(())
+}
+
+// The heads up to the new place of the advisory with an old index, where it isn't gone, and its own, which is known.
+fn put_known(
+    heads: &mut Vec<u128>,
+    records: &[Arc<Record>],
+    moved: &[u32],
+    index: usize,
+    known: u128,
+) -> Result<(), Memory>
+    ensures first { AreFirst heads.old.items (map (λ a. arc_value a) records.now) → IfSome (slice_get moved.now index) (λ place. IsHeadAt known place (map (λ a. arc_value a) records.now))
+        → OnOk result (AreFirst heads.new.items (map (λ a. arc_value a) records.now)) }
+{
+    match moved.get(index) {
+        Some(place) if (*place as usize) < records.len() => {
+            put_at(heads, records, *place as usize, known)
+        }
+        _ => Ok(()),
+    }
+}
+
+fn put_at(
+    heads: &mut Vec<u128>,
+    records: &[Arc<Record>],
+    place: usize,
+    known: u128,
+) -> Result<(), Memory>
+    requires { place < length records.now }
+    ensures first { AreFirst heads.old.items (map (λ a. arc_value a) records.now) → IsHeadAt known place (map (λ a. arc_value a) records.now)
+        → OnOk result (AreFirst heads.new.items (map (λ a. arc_value a) records.now)) }
+{
+    put_heads(heads, records, place)?;
+    if heads.as_slice().len() == place {
+        heads.push(known)?;
+    }
+    Ok(())
 }
 
 // The advisories behind the first so many.
