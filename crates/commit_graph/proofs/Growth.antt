@@ -1,5 +1,5 @@
 -- A graph with one more row.
-use Rattle.std.proofs.Common.{◌≡◌, ◌≢◌, ℕ, ◌+◌, ◌*◌, ◌^◌, ◌<◌, ◌≤◌, inl, inr, false, List, [], ◌∷◌, ◌++◌, length, map, take, get_or, sum_by, All, AllPairs, Contains, refl, sym, ap, subst, ◌∙◌, arith, length-append}
+use Rattle.std.proofs.Common.{◌≡◌, ◌≢◌, ℕ, ◌+◌, ◌-◌, ◌*◌, ◌^◌, ◌<◌, ◌≤◌, min, inl, inr, false, List, [], ◌∷◌, ◌++◌, length, map, take, get_or, sum_by, All, AllPairs, Contains, refl, sym, ap, subst, ◌∙◌, arith, length-append}
 use Rattle.std.specs.List.{EachIndex}
 use Rattle.std.specs.Str.{bytes_eq}
 use Rattle.std.proofs.lemmas.Bool.{true≢false, cases_order}
@@ -7,7 +7,7 @@ use Rattle.std.proofs.lemmas.List.{length-map, get_or-map, get_or_append_left, g
 use Rattle.std.proofs.lemmas.List.Elements.{All-map, All-weaker, All-from_get_or, All-head, All-tail, Contains-get_or}
 use Rattle.std.proofs.lemmas.List.Folds.{list_any_at}
 use Rattle.std.proofs.lemmas.List.Quantifiers.{all_pairs_push}
-use Rattle.std.proofs.lemmas.List.Sums.{sum_by-cons}
+use Rattle.std.proofs.lemmas.List.Sums.{sum_by_push}
 use Rattle.std.proofs.lemmas.Slice.Eq.{bytes_eq-Decides}
 use Rattle.osv_prim.specs.declared.oid.CommitRow.{CommitRow}
 use Rattle.osv_prim.specs.Graphs.{ids, has, id_at, parents_at, IsLegal}
@@ -21,16 +21,6 @@ map-agree f g [] h = refl
 map-agree {A} f g (x ∷ xs) h =
     let P : A → Type 0 = λ y. f y ≡ g y in
     ap (λ y. y ∷ map f xs) (All-head P x xs h) ∙ ap (λ ys. g x ∷ ys) (map-agree f g xs (All-tail P x xs h))
-
-sum-lengths : {A B : Type 0} (f : A → B) (xs : List (List A)) → sum_by length (map (map f) xs) ≡ sum_by length xs
-sum-lengths f [] = refl
-sum-lengths f (x ∷ xs) =
-    sum_by-cons length (map f x) (map (map f) xs) ∙ ap (λ n. n + sum_by length (map (map f) xs)) (length-map x f)
-    ∙ ap (λ n. length x + n) (sum-lengths f xs) ∙ sym (sum_by-cons length x xs)
-
-sum-map : {A : Type 0} (f : A → ℕ) {B : Type 0} (g : B → A) (xs : List B) → sum_by f (map g xs) ≡ sum_by (λ x. f (g x)) xs
-sum-map f g [] = refl
-sum-map f g (x ∷ xs) = sum_by-cons f (g x) (map g xs) ∙ ap (λ n. f (g x) + n) (sum-map f g xs) ∙ sym (sum_by-cons (λ y. f (g y)) x xs)
 
 -- what holds at each index of a list, and of one more at its end
 each_push : {A : Type 0} (P : ℕ → Type 0) (xs : List A) (x : A) → ((n : ℕ) → n < length xs → P n) → P (length xs) → EachIndex (xs ++ x ∷ []) P
@@ -73,11 +63,6 @@ module _ (graph : List CommitRow) (numbers : List (List ℕ)) (linked : IsLinked
 
   pub earlier_at : (n : ℕ) → n < length graph → All (λ p. p < n) (get_or numbers n [])
   earlier_at n lt = linked.earlier n (omega (arith, length-numbers))
-
-  pub linked_weight : 64 * length graph + 32 * sum_by length numbers ≡ weight_of graph
-  linked_weight =
-      ap (λ n. 64 * length graph + 32 * n)
-      (sym (sum-lengths (id_at graph) numbers) ∙ ap (sum_by length) linked.parents ∙ sum-map length (λ (x : CommitRow). x.parents) graph)
 
   module _ (r : CommitRow) (list : List ℕ) (named : map (id_at graph) list ≡ r.parents) (below : All (λ p. p < length graph) list) where
     same_list : (ns : List ℕ) → All (λ p. p < length graph) ns → map (id_at (graph ++ r ∷ [])) ns ≡ map (id_at graph) ns
@@ -141,12 +126,23 @@ module _ (graph : List CommitRow) (legal : IsLegal graph) (r : CommitRow) where
             (subst (λ (xs : List (List ℕ)). All (Contains xs) r.parents) (sym all_ids) (named_earlier list named below)));
       }
 
-pub IsGraph-push : (graph : List CommitRow) (oids : List (List ℕ)) (numbers : List (List ℕ)) (r : CommitRow) (list : List ℕ) → IsGraph graph oids numbers → has graph r.oid ≡ false
-    → map (id_at graph) list ≡ r.parents → All (λ p. p < length graph) list → length graph + 1 < 2 ^ 32 → IsGraph (graph ++ r ∷ []) (oids ++ r.oid ∷ []) (numbers ++ list ∷ [])
-IsGraph-push graph oids numbers r list kept absent named below room =
+pub weight_of-push : (graph : List CommitRow) (r : CommitRow) → weight_of (graph ++ r ∷ []) ≡ weight_of graph + 64 + 32 * length r.parents
+weight_of-push graph r =
+    let all : sum_by (λ (x : CommitRow). length x.parents) (graph ++ r ∷ []) ≡ sum_by (λ (x : CommitRow). length x.parents) graph + length r.parents = sum_by_push (λ (x : CommitRow). length x.parents) graph r in
+    omega (arith, all, length-append graph (r ∷ []))
+
+pub IsGraph-push : (graph : List CommitRow) (numbers : List (List ℕ)) (count weight : ℕ) (r : CommitRow) (list : List ℕ) → IsGraph graph numbers count weight → has graph r.oid ≡ false
+    → map (id_at graph) list ≡ r.parents → All (λ p. p < length graph) list → length graph + 1 < 2 ^ 32 → (more : ℕ) → more ≡ min (weight_of (graph ++ r ∷ [])) (2 ^ 64 - 1)
+    → IsGraph (graph ++ r ∷ []) (numbers ++ list ∷ []) (count + 1) more
+IsGraph-push graph numbers count weight r list kept absent named below room more weighed =
     record {
       legal = legal-push graph kept.legal r list absent named below;
-      ids = ap (λ (xs : List (List ℕ)). xs ++ r.oid ∷ []) kept.ids ∙ sym (ids-push graph r);
       linked = linked-push graph numbers kept.linked r list named below;
+      counted = omega (arith, kept.counted, length-append graph (r ∷ []));
       small = omega (arith, length-append graph (r ∷ []));
+      weighed = weighed;
     }
+
+pub IsGraph-same : (graph other : List CommitRow) (numbers others : List (List ℕ)) (count weight : ℕ) → other ≡ graph → others ≡ numbers → IsGraph graph numbers count weight → IsGraph other others count weight
+IsGraph-same graph other numbers others count weight e f kept =
+    subst (λ (g : List CommitRow). IsGraph g others count weight) (sym e) (subst (λ (ns : List (List ℕ)). IsGraph graph ns count weight) (sym f) kept)

@@ -2,33 +2,38 @@ ghost use Rattle.std.specs.Prelude.{◌≡◌, ◌↔◌, ◌+◌, ◌-◌, ◌^
 ghost use Rattle.osv_prim.specs.Graphs.{has, number_of, id_at, parents_at, IsLegal};
 ghost use Rattle.commit_graph.specs.Linked.{weight_of};
 
-use indexmap::IndexSet;
-use osv_prim::{CommitRow, Ledger, Lists, Memory, Oid, Steps};
+use crate::segment::Segment;
+use crate::segments::{merged, number_in, place_of, shared, small_from};
+use osv_prim::{CommitRow, Ledger, Memory, Oid, Steps};
 use std::alloc::Global;
 use std::marker::Model;
+use std::sync::Arc;
 
 /// Commits with their parents (git's documentation, "gitglossary": commit, parent), fewer than 2^32.
 /// Contracts see the list of their rows: ids differ, and each parent is the id of an earlier row. The
-/// rows are numbered from 0. What a row says is read only with a counter of steps.
+/// rows are numbered from 0. What a row says is read only with a counter of steps. Graphs that grew from
+/// one another share their older rows.
 #[derive(Drop)]
 pub struct Graph {
-    rows: Vec<CommitRow>,
-    // The ids of the rows, in their order.
-    ids: IndexSet<Oid>,
-    // The numbers of each row's parents.
-    parents: Lists<u32>,
+    // Rows one after another, each segment at most about half as large as the one before it.
+    segments: Vec<Arc<Segment>>,
+    // Rows behind those, while a graph grows. A graph that is done has none.
+    fresh: Segment,
+    count: u32,
+    weight: u64,
 }
 
 impl Model for Graph {
     ghost use Rattle.std.specs.Prelude.{List};
     ghost use Rattle.osv_prim.specs.declared.oid.CommitRow.{CommitRow};
     ghost use Rattle.commit_graph.specs.Linked.{IsGraph};
+    ghost use Rattle.commit_graph.specs.Segments.{seen, rows_of, numbers_of};
 
     ghost Value = { List CommitRow };
 
-    ghost view = { λ g. g.rows.items };
+    ghost view = { λ g. rows_of (seen g.segments.items) g.fresh };
 
-    ghost invariant = { λ g. IsGraph g.rows.items g.ids.keys g.parents };
+    ghost invariant = { λ g. IsGraph (rows_of (seen g.segments.items) g.fresh) (numbers_of (seen g.segments.items) g.fresh) g.count g.weight };
 }
 
 impl Graph {
@@ -44,9 +49,10 @@ impl Graph {
         ensures { IfOk result (λ g. g ≡ []) }
     {
         Ok(Graph {
-            rows: Vec::with_capacity(alloc, count)?,
-            ids: IndexSet::with_capacity(alloc, count)?,
-            parents: Lists::with_capacity(alloc, count, count)?,
+            segments: Vec::new(alloc),
+            fresh: Segment::with_capacity(alloc, count)?,
+            count: 0,
+            weight: 0,
         })
     }
 
@@ -55,14 +61,14 @@ impl Graph {
         ensures len { result ≡ length self.now }
         ensures legal { IsLegal self.now }
     {
-        self.rows.len() as u32
+        self.count
     }
 
     /// Whether there are no commits.
     pub fn is_empty(&self) -> bool
         ensures { IsTrue result ↔ (length self.now ≡ 0) }
     {
-        self.rows.is_empty()
+        self.count == 0
     }
 
     /// What the graph weighs, by which the commits of a store are limited: 64 for each row and 32 for each
@@ -70,8 +76,7 @@ impl Graph {
     pub fn weight(&self) -> u64
         ensures { result ≡ min (weight_of self.now) (2 ^ 64 - 1) }
     {
-        let rows = 64 * self.rows.len() as u64;
-        rows.saturating_add((self.parents.total() as u64).saturating_mul(32))
+        self.weight
     }
 
     /// The number of a commit's row, where the graph has the commit. It is found by the commit's id,
@@ -83,7 +88,7 @@ impl Graph {
         ensures row { IfSome result (λ n. id_at self.now n ≡ oid.now) }
         ensures legal { IsLegal self.now }
     {
-        self.ids.get_index_of(oid).map(|number| number as u32)
+        number_in(self.segments.as_slice(), &self.fresh, oid)
     }
 
     /// The row with a number, from 0. It counts one graph step.
@@ -93,7 +98,8 @@ impl Graph {
         ensures steps { steps.new ≡ record steps.old { graph = steps.old.graph + 1 } }
     {
         steps.graph_tick();
-        &self.rows[number as usize]
+        let (segment, index) = place_of(self.segments.as_slice(), &self.fresh, number as usize);
+        segment.row(index)
     }
 
     /// The numbers of the parents of the row with a number, in the row's order, each below its own. It
@@ -105,24 +111,43 @@ impl Graph {
         ensures steps { steps.new ≡ record steps.old { graph = steps.old.graph + 1 } }
     {
         steps.graph_tick();
-        self.numbers_at(number as usize)
+        let (segment, index) = place_of(self.segments.as_slice(), &self.fresh, number as usize);
+        segment.numbers(index)
     }
 
-    pub(crate) fn rows(&self) -> &[CommitRow]
-        ensures rows { result.now ≡ self.now }
-        ensures legal { IsLegal self.now }
-        ensures small { length self.now < 2 ^ 32 }
+    /// The same graph, with room for so many rows more. It shares the rows that are in segments.
+    pub(crate) fn copy(&self, alloc: Global, room: usize) -> Result<Graph, Memory>
+        ensures { IfOk result (λ g. g ≡ self.now) }
     {
-        self.rows.as_slice()
+        let fresh = Segment::with_capacity(alloc, room)?;
+        Ok(Graph {
+            segments: shared(alloc, self.segments.as_slice())?,
+            fresh: fresh.with_rows(alloc, &self.fresh)?,
+            count: self.count,
+            weight: self.weight,
+        })
     }
 
-    /// As `parents_at`, without a step, for a copy of the whole graph.
-    pub(crate) fn numbers_at(&self, number: usize) -> &[u32]
-        requires { number < length self.now }
-        ensures parents { map (id_at self.now) result.now ≡ parents_at self.now number }
-        ensures earlier { All (λ p. p < number) result.now }
+    /// The same graph, whose fresh rows are in a segment, with those of small segments before them.
+    pub(crate) fn sealed(self, alloc: Global) -> Result<Graph, Memory>
+        ensures { IfOk result (λ g. g ≡ self) }
     {
-        self.parents.at(number)
+        let Graph {
+            mut segments,
+            fresh,
+            count,
+            weight,
+        } = self;
+        let (from, room) = small_from(segments.as_slice(), fresh.len());
+        let last = merged(alloc, segments.as_slice(), from, room, fresh)?;
+        segments.truncate(from);
+        segments.push(Arc::new(alloc, last)?)?;
+        Ok(Graph {
+            segments,
+            fresh: Segment::with_capacity(alloc, 0)?,
+            count,
+            weight,
+        })
     }
 
     /// Puts a row at the end, whose parents have these numbers.
@@ -134,13 +159,17 @@ impl Graph {
         ensures { IfOk result (λ g. g ≡ self ++ row ∷ []) }
     {
         let Graph {
-            mut rows,
-            mut ids,
-            mut parents,
+            segments,
+            fresh,
+            count,
+            weight,
         } = self;
-        parents.push(numbers)?;
-        let _ = ids.insert(row.oid)?;
-        rows.push(row)?;
-        Ok(Graph { rows, ids, parents })
+        let parents = (numbers.len() as u64).saturating_mul(32);
+        Ok(Graph {
+            segments,
+            fresh: fresh.with_row(row, numbers)?,
+            count: count + 1,
+            weight: weight.saturating_add(parents.saturating_add(64)),
+        })
     }
 }

@@ -14,8 +14,8 @@ impl Graph {
     /// whose commit is there with the same parents in the same order is passed over. `most` is how many
     /// commits the result may have, its own and new ones together; rows that are passed over don't count,
     /// and a graph that has more already takes only such rows. The first faulty row refuses them all, by
-    /// the variant of `GraphFault` that tells why. The graph itself stays as it is. It copies the graph, and
-    /// counts at most one graph step for each of the given rows.
+    /// the variant of `GraphFault` that tells why. The graph itself stays as it is, and the result shares
+    /// its rows. It counts at most one graph step for each of the given rows.
     pub fn extend<L: Ledger>(
         &self,
         alloc: Global,
@@ -34,11 +34,12 @@ impl Graph {
         ensures steps { steps.new.graph ≤ steps.old.graph + length rows.now }
         ensures records { steps.new.record_count ≡ steps.old.record_count }
     {
-        let mut graph = self.copy(alloc, rows.len())?;
+        let mut graph = self.copy(alloc, rows.len().saturating_sub(self.len() as usize))?;
         let mut numbers = Vec::new(alloc);
         for (index, row) in rows.iter().enumerate() {
             graph = joined_by(alloc, graph, row, index as u64, most, &mut numbers, steps)?;
         }
+        let graph = graph.sealed(alloc)?;
         // Its contract tells that the graph is legal.
         let _ = graph.len();
         Ok(graph)
@@ -70,20 +71,9 @@ impl Graph {
             graph = joined_with(graph, row, index, most, &mut numbers, steps)?;
             index += 1;
         }
+        let graph = graph.sealed(alloc)?;
         // Its contract tells that the graph is legal.
         let _ = graph.len();
-        Ok(graph)
-    }
-
-    // The same graph, with room for more rows.
-    fn copy(&self, alloc: Global, room: usize) -> Result<Graph, Memory>
-        ensures { IfOk result (λ g. g ≡ self.now) }
-    {
-        let rows = self.rows();
-        let mut graph = Graph::with_capacity(alloc, rows.len().saturating_add(room))?;
-        for (number, row) in rows.iter().enumerate() {
-            graph = graph.with_row(row.copy(alloc)?, self.numbers_at(number))?;
-        }
         Ok(graph)
     }
 

@@ -11,6 +11,8 @@
 mod fault;
 mod graph;
 mod joining;
+mod segment;
+mod segments;
 
 pub use fault::GraphFault;
 pub use graph::Graph;

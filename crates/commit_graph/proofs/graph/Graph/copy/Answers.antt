@@ -1,19 +1,14 @@
-use Rattle.std.proofs.Common.{◌≡◌, List, map, sym, ap, subst, ◌∙◌}
+use Rattle.std.proofs.Common.{◌≢◌, List, [], ◌++◌, AllPairs, sym, subst}
+use Rattle.std.specs.List.{flat_map}
+use Rattle.std.proofs.lemmas.List.{append-nil}
 use Rattle.osv_prim.specs.declared.oid.CommitRow.{CommitRow}
-use Rattle.osv_prim.specs.Graphs.{has, id_at, parents_at, IsLegal}
-use Rattle.commit_graph.proofs.Numbers.{copy_absent, copy_parents}
+use Rattle.osv_prim.specs.Graphs.{ids}
+use Rattle.commit_graph.specs.Segments.{Part, seen}
+use Rattle.commit_graph.proofs.Parts.{differ_last}
 use Rattle.commit_graph.proofs.graph.Graph.copy.Goals as goal
 
-pub with_row-requires-clause-absent : goal.with_row-requires-clause-absent
-with_row-requires-clause-absent c =
-    ap (λ (r : CommitRow). has c.loop-number.graph r.oid) c.in_ok-copy.ensures
-    ∙ copy_absent c.rows-rows.result.now c.loop-number.graph c.loop-number.number c.index-rows-number.result c.loop-number-test.true c.loop-number.invariant c.index-rows-number.is
-    (subst IsLegal (sym c.rows-rows.ensures.rows) c.rows-rows.ensures.legal)
-
-pub with_row-requires-clause-parents : goal.with_row-requires-clause-parents
-with_row-requires-clause-parents c =
-    copy_parents c.rows-rows.result.now c.loop-number.graph c.loop-number.number c.index-rows-number.result c.loop-number-test.true c.loop-number.invariant c.index-rows-number.is
-    c.numbers_at.result.now
-    (subst (λ (g : List CommitRow). map (id_at g) c.numbers_at.result.now ≡ parents_at g c.loop-number.number) (sym c.rows-rows.ensures.rows) c.numbers_at.ensures.parents)
-    c.numbers_at.ensures.earlier
-    ∙ ap (λ (r : CommitRow). r.parents) (sym c.in_ok-copy.ensures)
+pub with_rows-requires : goal.with_rows-requires
+with_rows-requires c =
+    let before = flat_map (λ (p : Part). p.rows) (seen c.self.inside.segments.items) in
+    subst (λ (xs : List CommitRow). AllPairs (λ a b. a ≢ b) (ids (xs ++ c.self.inside.fresh.rows))) (sym c.in_ok-fresh.ensures.rows)
+    (differ_last before [] c.self.inside.fresh.rows before (append-nil before) c.self.invariant.legal.differ)

@@ -23,8 +23,8 @@ returns-in_err-graph-2-clause-refused g c =
 
 pub returns-clause-value : goal.returns-clause-value
 returns-clause-value g c =
-    is_extended c.args.self.now c.args.most c.args.rows.now c.loop-index.graph
-    (c.loop-index.invariant.so_far ∙ ap (joined c.args.self.now) (take_all c.loop-index.index c.args.rows.now (omega (arith, c.loop-index-test.false))))
+    is_extended c.args.self.now c.args.most c.args.rows.now c.in_ok-graph-3.graph
+    (c.in_ok-graph-3.ensures ∙ c.loop-index.invariant.so_far ∙ ap (joined c.args.self.now) (take_all c.loop-index.index c.args.rows.now (omega (arith, c.loop-index-test.false))))
     (λ index lt. c.loop-index.invariant.sound index (omega (arith, lt, c.loop-index-test.false)))
 
 pub loop-index-preserved : goal.loop-index-preserved

@@ -33,7 +33,7 @@ returns-clause-value g c =
     nil_from_length (into_iter_items c.loop-row.row-iterator) (omega (arith, c.in-None.ensures.steps.0, c.loop-row.row-iterator.rest.ok.0)) in
     let all : c.loop-row.yielded ≡ c.args.rows =
     sym (append-nil c.loop-row.yielded) ∙ ap (λ (xs : List CommitRow). c.loop-row.yielded ++ xs) (sym none) ∙ c.loop-row.invariant.split in
-    is_extended [] c.args.most c.args.rows c.loop-row.graph (c.loop-row.invariant.so_far ∙ ap (joined []) all)
+    is_extended [] c.args.most c.args.rows c.in_ok-graph-3.graph (c.in_ok-graph-3.ensures ∙ c.loop-row.invariant.so_far ∙ ap (joined []) all)
     (λ index lt. c.loop-row.invariant.sound index (omega (arith, lt, c.loop-row.invariant.count, ap (λ (xs : List CommitRow). length xs) all)))
 
 pub loop-row-preserved : goal.loop-row-preserved

@@ -1,0 +1,100 @@
+ghost use Rattle.std.specs.Prelude.{◌≡◌, ◌≢◌, ◌≤◌, ◌<◌, ◌^◌, ◌++◌, List, ℕ, length, take, slice_index_or, AllPairs, IfOk, IfSome};
+ghost use Rattle.std.specs.List.{flat_map};
+ghost use Rattle.osv_prim.specs.Graphs.{ids, number_of};
+ghost use Rattle.osv_prim.specs.declared.oid.CommitRow.{CommitRow};
+ghost use Rattle.commit_graph.specs.Segments.{seen, rows_of, numbers_of};
+
+use crate::segment::Segment;
+use osv_prim::{Memory, Oid};
+use std::alloc::Global;
+use std::sync::Arc;
+
+/// The segment, or the fresh rows, where the row with a number stands, and its index there. Segments at
+/// least halve in size, so most rows are in the first.
+pub(crate) fn place_of<'a>(
+    segments: &'a [Arc<Segment>],
+    fresh: &'a Segment,
+    number: usize,
+) -> (&'a Segment, usize)
+    requires { number < length (rows_of (seen segments.now) fresh.now) }
+    ensures within { result.1 < length result.0.now.rows }
+    ensures row { (d : CommitRow) → slice_index_or (rows_of (seen segments.now) fresh.now) number d ≡ slice_index_or result.0.now.rows result.1 d }
+    ensures numbers { (d : List ℕ) → slice_index_or (numbers_of (seen segments.now) fresh.now) number d ≡ slice_index_or result.0.now.numbers result.1 d }
+{
+    let mut index = number;
+    for segment in segments {
+        let count = segment.len();
+        if index < count {
+            return (segment, index);
+        }
+        index -= count;
+    }
+    (fresh, index)
+}
+
+/// The number of a commit's row in the segments and the fresh rows.
+pub(crate) fn number_in(segments: &[Arc<Segment>], fresh: &Segment, oid: &Oid) -> Option<u32>
+    requires { length (rows_of (seen segments.now) fresh.now) < 2 ^ 32 }
+    ensures { result ≡ number_of (rows_of (seen segments.now) fresh.now) oid.now }
+{
+    let mut first = 0;
+    for segment in segments {
+        match segment.number_of(oid) {
+            Some(index) => return Some((first + index) as u32),
+            None => first += segment.len(),
+        }
+    }
+    match fresh.number_of(oid) {
+        Some(index) => Some((first + index) as u32),
+        None => None,
+    }
+}
+
+/// The same segments, shared.
+pub(crate) fn shared(alloc: Global, segments: &[Arc<Segment>]) -> Result<Vec<Arc<Segment>>, Memory>
+    ensures { IfOk result (λ v. seen v.items ≡ seen segments.now) }
+{
+    let mut own = Vec::with_capacity(alloc, segments.len().saturating_add(1))?;
+    for segment in segments {
+        own.push(Arc::try_clone(segment)?)?;
+    }
+    Ok(own)
+}
+
+/// Where the segments begin that are to be made one with so many rows behind them, and how many rows that
+/// one has: each of them has at most about twice the rows of all that follow. So sizes at least halve from
+/// one to the next, and a row is copied at most once for each time that the rows behind it double.
+pub(crate) fn small_from(segments: &[Arc<Segment>], count: usize) -> (usize, usize)
+    ensures { result.0 ≤ length segments.now }
+{
+    let mut from = segments.len();
+    let mut count = count;
+    while from > 0 && segments[from - 1].len() / 2 <= count {
+        from -= 1;
+        count = count.saturating_add(segments[from].len());
+    }
+    (from, count)
+}
+
+/// The segments from an index on and the fresh rows as one, with room for `count` rows.
+pub(crate) fn merged(
+    alloc: Global,
+    segments: &[Arc<Segment>],
+    from: usize,
+    count: usize,
+    fresh: Segment,
+) -> Result<Segment, Memory>
+    requires there { from ≤ length segments.now }
+    requires differ { AllPairs (λ a b. a ≢ b) (ids (rows_of (seen segments.now) fresh)) }
+    ensures rows { IfOk result (λ s. rows_of (take from (seen segments.now)) s ≡ rows_of (seen segments.now) fresh) }
+    ensures numbers { IfOk result (λ s. numbers_of (take from (seen segments.now)) s ≡ numbers_of (seen segments.now) fresh) }
+{
+    if from == segments.len() {
+        return Ok(fresh);
+    }
+    let mut whole = Segment::with_capacity(alloc, count)?;
+    for index in from..segments.len() {
+        whole = whole.with_rows(alloc, &segments[index])?;
+    }
+    whole.with_rows(alloc, &fresh)
+}
