@@ -72,10 +72,11 @@ impl<'a, R: Clock> Link<'a, R> {
             self.limit_writes(self.left(true)?)?;
             let start = Instant::now(self.clock)?;
             let res = (&self.stream).write(piece);
-            self.spend(start.elapsed(self.clock)?, &res);
             if is_whole(&res, piece.len()) {
                 self.renew();
+                return res;
             }
+            self.spend(start.elapsed(self.clock)?, &res);
             if !is_cut_off(&res) {
                 return res;
             }
@@ -85,7 +86,8 @@ impl<'a, R: Clock> Link<'a, R> {
 
     // What is left for bytes that go this way, which begins anew where the last ones went the other way.
     fn left(&self, is_writing: bool) -> io::Result<Duration> {
-        if self.is_writing.swap(is_writing, Ordering::SeqCst) != is_writing {
+        if self.is_writing.load(Ordering::SeqCst) != is_writing {
+            self.is_writing.store(is_writing, Ordering::SeqCst);
             self.renew();
         }
         let left = self.spent().left();
@@ -96,8 +98,8 @@ impl<'a, R: Clock> Link<'a, R> {
     }
 
     fn renew(&self) {
-        self.waited.store(0, Ordering::SeqCst);
-        self.moved.store(0, Ordering::SeqCst);
+        set(&self.waited, 0);
+        set(&self.moved, 0);
     }
 
     fn spent(&self) -> Allowance {
@@ -119,18 +121,27 @@ impl<'a, R: Clock> Link<'a, R> {
 
     // A limit that the socket has already is not set again.
     fn limit_reads(&self, limit: Duration) -> io::Result<()> {
-        if self.read_limit.swap(nanos_of(limit), Ordering::SeqCst) == nanos_of(limit) {
-            return Ok(());
+        if set(&self.read_limit, nanos_of(limit)) {
+            return self.stream.set_read_timeout(Some(limit));
         }
-        self.stream.set_read_timeout(Some(limit))
+        Ok(())
     }
 
     fn limit_writes(&self, limit: Duration) -> io::Result<()> {
-        if self.write_limit.swap(nanos_of(limit), Ordering::SeqCst) == nanos_of(limit) {
-            return Ok(());
+        if set(&self.write_limit, nanos_of(limit)) {
+            return self.stream.set_write_timeout(Some(limit));
         }
-        self.stream.set_write_timeout(Some(limit))
+        Ok(())
     }
+}
+
+// Sets a word, where it has another value: a load costs far less than a store. It says whether it had.
+fn set(word: &AtomicU64, value: u64) -> bool {
+    let is_other = word.load(Ordering::SeqCst) != value;
+    if is_other {
+        word.store(value, Ordering::SeqCst);
+    }
+    is_other
 }
 
 fn nanos_of(time: Duration) -> u64 {
