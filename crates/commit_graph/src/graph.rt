@@ -15,7 +15,7 @@ use std::sync::Arc;
 /// one another share their older rows.
 #[derive(Drop)]
 pub struct Graph {
-    // Rows one after another, each segment at most about half as large as the one before it.
+    // Rows one after another, the largest segments first.
     segments: Vec<Arc<Segment>>,
     // Rows behind those, while a graph grows. A graph that is done has none.
     fresh: Segment,

@@ -9,8 +9,11 @@ use osv_prim::{Memory, Oid};
 use std::alloc::Global;
 use std::sync::Arc;
 
-/// The segment, or the fresh rows, where the row with a number stands, and its index there. Segments at
-/// least halve in size, so most rows are in the first.
+// How many segments of one size are kept before they are made one.
+const SIDE_BY_SIDE: usize = 15;
+
+/// The segment, or the fresh rows, where the row with a number stands, and its index there. The largest
+/// segments come first, so most rows are found at once.
 pub(crate) fn place_of<'a>(
     segments: &'a [Arc<Segment>],
     fresh: &'a Segment,
@@ -62,18 +65,25 @@ pub(crate) fn shared(alloc: Global, segments: &[Arc<Segment>]) -> Result<Vec<Arc
 }
 
 /// Where the segments begin that are to be made one with so many rows behind them, and how many rows that
-/// one has: each of them has at most about twice the rows of all that follow. So sizes at least halve from
-/// one to the next, and a row is copied at most once for each time that the rows behind it double.
+/// one has: at the first that has at most a fifteenth of the rows behind it. So of segments alike at most
+/// fifteen stand side by side, a row is copied at most once for each time that its segment becomes sixteen
+/// times as large, and what all versions of a graph keep together is little more than the last.
 pub(crate) fn small_from(segments: &[Arc<Segment>], count: usize) -> (usize, usize)
     ensures { result.0 ≤ length segments.now }
 {
-    let mut from = segments.len();
-    let mut count = count;
-    while from > 0 && segments[from - 1].len() / 2 <= count {
-        from -= 1;
-        count = count.saturating_add(segments[from].len());
+    let mut place = (segments.len(), count);
+    let mut behind = count;
+    let mut index = segments.len();
+    while index > 0 {
+        index -= 1;
+        let rows = segments[index].len();
+        let whole = behind.saturating_add(rows);
+        if rows.saturating_mul(SIDE_BY_SIDE) <= behind {
+            place = (index, whole);
+        }
+        behind = whole;
     }
-    (from, count)
+    place
 }
 
 /// The segments from an index on and the fresh rows as one, with room for `count` rows.
