@@ -17,8 +17,9 @@ use std::sync::Wait;
 
 /// A value that callers act on in turns.
 ///
-/// Turns are served in the order in which their tickets were taken. Who waits looks again and again, then yields
-/// between its looks, and then sleeps until a turn ends.
+/// Turns are served in the order in which their tickets were taken, and a ticket is taken only once its turn has come. Who
+/// waits for that looks again and again, then yields between its looks, and then sleeps until a turn ends; of several it is
+/// any.
 #[derive(Drop)]
 pub struct TurnLock<B: Stored> {
     tickets: TicketTable<B>,

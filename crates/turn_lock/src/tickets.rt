@@ -65,20 +65,41 @@ impl<B: Stored + Drop> TicketTable<B> {
         found == at
     }
 
-    // Takes the next ticket. There are 2^64 - 1 of them; a pass that finds none waits for good.
+    // Takes the next ticket as soon as its turn has come, so that nobody waits for a pass that has a ticket and no processor.
+    // There are 2^64 - 1 of them; a pass that finds none waits for good.
     pub fn take_ticket<R: Wait>(&self, rt: &R, seat: &mut PassSeat<B>) -> u64
         requires id { seat.old.table_id ≡ self.now.table.shared.table_id }
         requires idle { IsIdle seat.old.me }
         ensures id { seat.new.table_id ≡ seat.old.table_id }
         ensures taken { seat.new.me ≡ (queued seat.old.me.0 result, []) }
     {
+        let mut looks = 0;
         for _ in rt.forever() {
+            let served = self.table.shared.peek(SERVING);
             let at = self.table.shared.peek(TICKET);
-            if at < u64::MAX && self.try_take_ticket(seat, at) {
+            if at == served && at < u64::MAX && self.try_take_ticket(seat, at) {
                 return at;
             }
+            looks = self.pause(rt, seat, looks, served);
         }
         unreachable!()
+    }
+
+    // Waits behind a look of this number, counted from 0, that found this ticket served, and gives the next number.
+    fn pause<R: Wait>(&self, rt: &R, seat: &mut PassSeat<B>, looks: u32, served: u64) -> u32
+        requires id { seat.old.table_id ≡ self.now.table.shared.table_id }
+        ensures id { seat.new.table_id ≡ seat.old.table_id }
+        ensures same { seat.new.me ≡ seat.old.me }
+    {
+        if looks < SPINS {
+            spin_loop();
+        } else if looks < SPINS + YIELDS {
+            yield_now();
+        } else {
+            self.sleep(rt, seat, served);
+            return looks;
+        }
+        looks + 1
     }
 
     // The ticket that is served.
@@ -92,8 +113,8 @@ impl<B: Stored + Drop> TicketTable<B> {
         self.table.shared.load::<ReadServing>(seat, SERVING)
     }
 
-    // Sleeps while the ticket `found` is served. A pass that ends its turn raises the served ticket before it looks
-    // for sleepers, and a sleeper is counted before it compares, so none sleeps through its turn.
+    // Sleeps while the ticket `found` is served, which a pass has. That pass raises the served ticket at the end of its turn
+    // before it looks for sleepers, and a sleeper is counted before it compares, so none sleeps on when the lock is free.
     fn sleep<R: Wait>(&self, rt: &R, seat: &mut PassSeat<B>, found: u64)
         requires id { seat.old.table_id ≡ self.now.table.shared.table_id }
         ensures id { seat.new.table_id ≡ seat.old.table_id }
@@ -118,12 +139,7 @@ impl<B: Stored + Drop> TicketTable<B> {
             if found == ticket {
                 return;
             }
-            if looks < SPINS + YIELDS {
-                pause(looks);
-                looks += 1;
-            } else {
-                self.sleep(rt, seat, found);
-            }
+            looks = self.pause(rt, seat, looks, found);
         }
         unreachable!()
     }
@@ -152,7 +168,7 @@ impl<B: Stored + Drop> TicketTable<B> {
         drop(self.table.shared.exchange(seat, 0, Some(state)));
     }
 
-    // Ends the turn with this value in the slot, and wakes the passes that sleep.
+    // Ends the turn with this value in the slot, and wakes a pass that sleeps.
     pub fn end_turn(&self, seat: &mut PassSeat<B>, by: u64, state: B)
         requires id { seat.old.table_id ≡ self.now.table.shared.table_id }
         requires out { seat.old.me.1 ≡ (0, None) ∷ [] }
@@ -170,8 +186,8 @@ impl<B: Stored + Drop> TicketTable<B> {
         shared.store::<StoreCallers>(seat, CALLERS, callers);
         shared.fetch_add::<RaiseServing>(seat, SERVING, 1);
         if shared.peek(SLEEPERS) > 0 {
-            // All, since only the pass that is served next goes on.
-            shared.wake_all(SERVING);
+            // One, since it takes the next turn or finds that another has it, who wakes one again.
+            shared.wake_one(SERVING);
         }
     }
 
@@ -195,14 +211,5 @@ impl<B: Stored + Drop> TicketTable<B> {
     {
         self.table.shared.join_seat::<SplitJoin>(seat, other);
         self.table.shared.load::<MergeSeen>(seat, TICKET);
-    }
-}
-
-// What a pass does after its look of this number, counted from 0.
-fn pause(looks: u32) {
-    if looks < SPINS {
-        spin_loop();
-    } else {
-        yield_now();
     }
 }
