@@ -1,11 +1,12 @@
 //! What `osv_service` answers, in plain Rust over httparse, serde_json and std's HashMap, to be measured beside it:
 //! `replay [SETTINGS]` over standard input and output, and `serve [SETTINGS] [--lanes N] ADDRESS` over TCP, with a thread for
-//! each of N lanes, four where nothing is said. SETTINGS are `--keep N`, `--page N` and `--weight N`; it takes no commits of repositories.
+//! each of N lanes, four where nothing is said. SETTINGS are `--keep N`, `--page N`, `--weight N` and `--commits FILE`. It takes no
+//! commits of repositories: which advisories hit a commit is told by the lines of FILE, each a commit and the ids of those.
 
 mod query;
 mod service;
 
-use service::{Service, Settings};
+use service::{read_commits, Service, Settings};
 use std::net::TcpListener;
 use std::process::exit;
 
@@ -17,9 +18,14 @@ struct Words {
 }
 
 fn words() -> Words {
-    let mut found = Words { settings: Settings { keep: 8, page: 100, weight: 1 << 30 }, lanes: 4, address: None };
+    let mut found = Words { settings: Settings { keep: 8, page: 100, weight: 1 << 30, commits: Vec::new() }, lanes: 4, address: None };
     let mut words = std::env::args().skip(1).filter(|word| word != "replay" && word != "serve");
     while let Some(word) = words.next() {
+        if word == "--commits" {
+            let text = words.next().and_then(|path| std::fs::read_to_string(path).ok());
+            found.settings.commits = text.and_then(|text| read_commits(&text)).unwrap_or_else(|| exit(2));
+            continue;
+        }
         let mut number = || -> u64 { words.next().and_then(|text| text.parse().ok()).unwrap_or_else(|| exit(2)) };
         match word.as_str() {
             "--keep" => found.settings.keep = number(),

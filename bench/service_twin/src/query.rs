@@ -11,7 +11,7 @@ pub type Fault = (u8, &'static str);
 pub struct Query {
     pub package: Option<Package<'static>>,
     pub version: Option<String>,
-    pub is_of_commit: bool,
+    pub commit: Option<[u8; 20]>,
     pub token: Option<(u64, String)>,
 }
 
@@ -116,9 +116,7 @@ fn query_of(value: &Value) -> Result<Query, Fault> {
     let name = text(parts, "name", "WrongType(Name)")?;
     let ecosystem = text(parts, "ecosystem", "WrongType(Ecosystem)")?;
     let url = text(parts, "purl", "WrongType(Purl)")?;
-    if commit.map_or(false, |commit| commit.len() != 40 || !commit.bytes().all(|b| b.is_ascii_hexdigit())) {
-        return Err((4, "BadCommit"));
-    }
+    let commit = commit.map(|text| commit_of(text).ok_or((4, "BadCommit"))).transpose()?;
     let named = url.map(|url| purl(url).ok_or((5, "BadPurl"))).transpose()?;
     let (mut key, mut in_purl) = (None, None);
     match (package, named, ecosystem, name) {
@@ -140,7 +138,17 @@ fn query_of(value: &Value) -> Result<Query, Fault> {
         return Err((8, "CommitWithVersion"));
     }
     let token = page_token.map(|text| token(text).ok_or((9, "BadToken"))).transpose()?;
-    Ok(Query { package: key, version, is_of_commit: commit.is_some(), token })
+    Ok(Query { package: key, version, commit, token })
+}
+
+/// The commit that 40 hex digits spell.
+pub fn commit_of(text: &str) -> Option<[u8; 20]> {
+    let is_hex = text.len() == 40 && text.bytes().all(|b| b.is_ascii_hexdigit());
+    let mut found = [0; 20];
+    for (at, byte) in found.iter_mut().enumerate().filter(|_| is_hex) {
+        *byte = u8::from_str_radix(&text[2 * at..2 * at + 2], 16).ok()?;
+    }
+    is_hex.then_some(found)
 }
 
 fn json(body: &[u8]) -> Result<Value, Fault> {

@@ -1,6 +1,6 @@
 //! What was imported and published, and what is answered of it.
 
-use crate::query::{is_id, percent_decoded, read_batch, read_query, Query};
+use crate::query::{commit_of, is_id, percent_decoded, read_batch, read_query, Query};
 use std::collections::{HashMap, VecDeque};
 use std::io::Write as _;
 use std::sync::{Arc, Mutex, RwLock, RwLockReadGuard};
@@ -12,6 +12,17 @@ pub struct Settings {
     pub keep: u64,
     pub page: usize,
     pub weight: u64,
+    /// The ids of the advisories that hit each commit, ascending, since it computes none.
+    pub commits: Vec<([u8; 20], Vec<String>)>,
+}
+
+/// Lines of a commit and the ids of the advisories that hit it.
+pub fn read_commits(text: &str) -> Option<Vec<([u8; 20], Vec<String>)>> {
+    let of_line = |line: &str| {
+        let mut words = line.split_whitespace();
+        Some((commit_of(words.next()?)?, words.map(str::to_string).collect()))
+    };
+    text.lines().map(of_line).collect()
 }
 
 /// An advisory with its bytes. The history keeps all of them for good, so none is ever freed.
@@ -25,6 +36,8 @@ struct Stored {
 struct Snapshot {
     by_id: HashMap<&'static str, &'static Stored>,
     by_package: HashMap<(String, String), Vec<&'static Stored>>,
+    /// Those that hit each commit that is known.
+    by_commit: Arc<HashMap<[u8; 20], Vec<&'static Stored>>>,
 }
 
 /// A reply: its status, one more line of its head or none, and its body.
@@ -95,20 +108,26 @@ impl Snapshot {
         }
     }
 
+    /// Those that are there of the advisories that hit each commit.
+    fn add_commits(&mut self, known: &[([u8; 20], Vec<String>)]) {
+        let listed = |ids: &[String]| ids.iter().filter_map(|id| self.by_id.get(id.as_str()).copied()).collect();
+        self.by_commit = Arc::new(known.iter().map(|(commit, ids)| (*commit, listed(ids))).collect());
+    }
+
     /// The first hits behind the token's advisory, and whether more remain.
     fn page(&self, query: &Query, size: usize) -> (Vec<&'static Stored>, bool) {
-        let package = match &query.package {
-            Some(package) if !query.is_of_commit => package,
-            _ => return (Vec::new(), false),
+        let listed = match (&query.package, &query.commit) {
+            (None, Some(commit)) => self.by_commit.get(commit),
+            (Some(package), None) => self.by_package.get(&(package.ecosystem.to_string(), package.name.to_string())),
+            _ => None,
         };
-        let key = (package.ecosystem.to_string(), package.name.to_string());
-        let listed = self.by_package.get(&key).map_or(&[][..], |listed| listed);
+        let listed = listed.map_or(&[][..], |listed| listed);
         let after = query.token.as_ref().map_or("", |token| &token.1);
         let start = listed.partition_point(|one| &*one.read.id <= after);
         let version = query.version.as_deref().map(Version::new);
         let mut found = Vec::new();
         for one in &listed[start..] {
-            if one.read.is_hit(package, version.as_ref()) {
+            if query.package.as_ref().map_or(true, |package| one.read.is_hit(package, version.as_ref())) {
                 if found.len() == size {
                     return (found, true);
                 }
@@ -190,6 +209,9 @@ impl Service {
             let mut next = Snapshot::clone(&last);
             for stored in &more {
                 next.add(stored);
+            }
+            if more.iter().any(|stored| stored.read.git_ranges() > 0) {
+                next.add_commits(&self.settings.commits);
             }
             let mut state = self.state.write().unwrap_or_else(|held| held.into_inner());
             state.published += more.len();
