@@ -2,3 +2,4 @@ pub mod Digits
 pub mod Heads
 pub mod Finding
 pub mod Firsts
+pub mod There

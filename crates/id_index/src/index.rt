@@ -8,6 +8,7 @@ ghost use Rattle.id_index.specs.Found.{IsFoundIn};
 ghost use Rattle.id_index.specs.Heads.{AreFirst, IsHeadAt, IsIndexOf};
 
 use crate::head::head;
+use crate::hints::Hints;
 use impact_job::split_at_id;
 use osv_prim::Memory;
 use osv_record::Record;
@@ -21,6 +22,7 @@ use std::sync::Arc;
 #[derive(Drop)]
 pub struct IdIndex {
     heads: Vec<u128>,
+    hints: Hints,
 }
 
 impl Model for IdIndex {
@@ -32,7 +34,7 @@ impl Model for IdIndex {
 }
 
 impl IdIndex {
-    /// The index of advisories, with 16 bytes for each. It reads each id once. Only memory can fail.
+    /// The index of advisories, with 28 bytes for each. Only memory can fail.
     pub fn build(alloc: Global, records: &[Arc<Record>]) -> Result<IdIndex, Memory>
         ensures { IfOk result (λ index. IsIndexOf index (map (λ a. arc_value a) records.now)) }
     {
@@ -42,7 +44,8 @@ impl IdIndex {
             heads.push(head(record.id.as_str().as_bytes()))?;
             rest = later;
         }
-        Ok(IdIndex { heads })
+        let hints = Hints::build(alloc, records)?;
+        Ok(IdIndex { heads, hints })
     }
 
     /// The index of a later list of advisories, from this one of an earlier list and where the advisories of
@@ -58,16 +61,34 @@ impl IdIndex {
         let mut heads = Vec::with_capacity(alloc, records.len())?;
         let known = self.heads.as_slice();
         for index in 0..known.len() {
-            put_known(&mut heads, records, moves.moved.as_slice(), index, known[index])?;
+            put_known(
+                &mut heads,
+                records,
+                moves.moved.as_slice(),
+                index,
+                known[index],
+            )?;
         }
         put_heads(&mut heads, records, records.len())?;
-        Ok(IdIndex { heads })
+        let hints = self.hints.renew(alloc, records, moves)?;
+        Ok(IdIndex { heads, hints })
     }
 
-    /// The advisory that has an id, which is given by its bytes, by O(log n) comparisons of numbers, and of ids
-    /// only where they begin with the same sixteen bytes. The advisories are those that the index is of, and
-    /// have to ascend by their ids.
+    /// The advisory that has an id, which is given by its bytes: mostly at once, else by O(log n) comparisons of
+    /// numbers, and of ids only where they begin with the same sixteen bytes. The advisories are those that the index
+    /// is of, and have to ascend by their ids.
     pub fn find<'a>(&self, records: &'a [Arc<Record>], id: &[u8]) -> Option<&'a Arc<Record>>
+        ensures { IsIndexOf self.now (map (λ a. arc_value a) records.now) → Ascend (map (λ a. arc_value a) records.now)
+            → IsFoundIn id.now (map (λ a. arc_value a) records.now) (option_map (λ a. arc_value a.now) result) }
+    {
+        match self.hints.find(records, id) {
+            Some(found) => Some(found),
+            None => self.search(records, id),
+        }
+    }
+
+    // The same by the heads.
+    fn search<'a>(&self, records: &'a [Arc<Record>], id: &[u8]) -> Option<&'a Arc<Record>>
         ensures { IsIndexOf self.now (map (λ a. arc_value a) records.now) → Ascend (map (λ a. arc_value a) records.now)
             → IsFoundIn id.now (map (λ a. arc_value a) records.now) (option_map (λ a. arc_value a.now) result) }
     {

@@ -5,6 +5,7 @@
 #![tactic(auto)]
 
 mod head;
+mod hints;
 mod index;
 
 pub use index::IdIndex;
