@@ -1,8 +1,7 @@
 -- What is to be done for a GIT range, by what came since.
-use Rattle.std.proofs.Common.{◌≡◌, ℕ, Bool, true, false, cond, List, [], ◌++◌, length, drop, map, Option, Some, None, refl, sym, ap, subst, ◌∙◌}
+use Rattle.std.proofs.Common.{◌≡◌, ℕ, Bool, true, false, cond, List, [], length, drop, Option, Some, None, refl, sym, ap, subst, ◌∙◌}
 use Rattle.std.specs.Prelude.{◌≢◌, slice_get, MatchOption, option_map, unwrap_or}
 use Rattle.std.specs.Arc.{arc_value}
-use Rattle.std.specs.declared.sync.Arc.{Arc}
 use Rattle.std.proofs.lemmas.Option.{slice_get-map}
 use Rattle.std.proofs.Math.Seq.{drop-append_seam}
 use mathlib.Core.List.{IsPrefix}
@@ -12,7 +11,7 @@ use Rattle.history.specs.declared.piece_kind.PieceKind.{PieceKind}
 use Rattle.history.specs.declared.piece_kind.PieceKind.TheVariants.{Fresh, Extend, Carry}
 use Rattle.history.specs.Prefixes.{graph}
 use Rattle.history.specs.Lookups.{has_import, has_grow}
-use Rattle.history.specs.Pieces.{GitRange, repo_of, git_ranges_in, kind_of, pieces}
+use Rattle.history.specs.Pieces.{GitRange, repo_of, git_ranges_in, kind_of}
 use Rattle.history.proofs.Lookups.{graph-stays}
 use Rattle.impact_set.specs.Standing.{Known, StandsFor}
 use Rattle.piece_work.specs.declared.piece.Piece.{Piece}

@@ -1,10 +1,9 @@
 -- The sets of what a build was to do, by advisory.
 use Rattle.std.proofs.Common.{◌≡◌, ℕ, zero, suc, ◌+◌, ◌<◌, ◌≤◌, Bool, true, false, cond, List, [], ◌∷◌, ◌++◌, length, map, take, drop, get_or, length-append, refl, sym, ap, subst, ◌∙◌, arith}
-use Rattle.std.specs.Prelude.{flat_map, count_by}
-use Rattle.std.specs.List.{AllZip, AllByRecursion, take-map}
-use Rattle.std.proofs.lemmas.List.{take_all, drop-map, map_more}
+use Rattle.std.specs.Prelude.{flat_map, slice_get, Some}
+use Rattle.std.specs.List.{AllZip, AllByRecursion}
+use Rattle.std.proofs.lemmas.List.{take_all, map_more}
 use Rattle.std.proofs.lemmas.List.Recursion.{is_count_by}
-use Rattle.std.specs.declared.sync.Arc.{Arc}
 use Rattle.std.specs.Arc.{arc_value}
 use mathlib.Core.List.{IsPrefix}
 use Rattle.osv_record.specs.Advisories.{Extent, Entry, Advisory, is_git, git_ranges_of, git_ranges}
@@ -13,14 +12,14 @@ use Rattle.history.specs.Prefixes.{graph}
 use Rattle.history.specs.Pieces.{GitRange, repo_of, ranges_from, ranges_of_entries, ranges_of}
 use Rattle.impact_set.specs.Standing.{Known, StandsFor}
 use Rattle.piece_work.specs.declared.piece.Piece as to_do
-use Rattle.piece_work.specs.Works.{IsReady, events_of}
+use Rattle.piece_work.specs.Works.{events_of}
 use Rattle.piece_work.specs.Sets.{IsSetOf}
 use Rattle.piece_work.proofs.Readiness.{piece-ready, piece-events}
 use Rattle.osv_prim.specs.declared.event.Event.{Event}
 use Rattle.osv_prim.specs.declared.oid.CommitRow.{CommitRow}
 use Rattle.impact_job.specs.declared.tables.Todo.{Todo}
 use Rattle.impact_job.specs.declared.tables.Todo.TheVariants.{Carried, Piece}
-use Rattle.impact_job.specs.Tables.{IsPieceFor, IsTodoOf, AreSetsOf}
+use Rattle.impact_job.specs.Tables.{IsPieceFor, IsTodoOf}
 use Rattle.impact_job.specs.Walks.{CanBeDone}
 use Rattle.impact_job.proofs.Walking.{zip-length}
 
@@ -96,40 +95,72 @@ module _ {X Y : Type 0} (R : X → Y → Type 0) where
   zip-drop (x ∷ xs) more [] z = absurd z
   zip-drop (x ∷ xs) more (y ∷ ys) z = zip-drop xs more ys z.1
 
+  -- both from the front, and both from behind it
+  pub both-take : (n : ℕ) (xs : List X) (ys : List Y) → AllZip R xs ys → AllZip R (take n xs) (take n ys)
+  both-take zero xs ys z = tt
+  both-take (suc n) [] [] z = tt
+  both-take (suc n) [] (y ∷ ys) z = absurd z
+  both-take (suc n) (x ∷ xs) [] z = absurd z
+  both-take (suc n) (x ∷ xs) (y ∷ ys) z = (z.0, both-take n xs ys z.1)
+
+  pub both-drop : (n : ℕ) (xs : List X) (ys : List Y) → AllZip R xs ys → AllZip R (drop n xs) (drop n ys)
+  both-drop zero xs ys z = z
+  both-drop (suc n) [] [] z = tt
+  both-drop (suc n) [] (y ∷ ys) z = absurd z
+  both-drop (suc n) (x ∷ xs) [] z = absurd z
+  both-drop (suc n) (x ∷ xs) (y ∷ ys) z = both-drop n xs ys z.1
+
 -- ---- turns of loops
 
-module _ {X Y : Type 0} (R : X → Y → Type 0) where
-  -- what stands beside the item at an index
-  pub record Beside (xs : List X) (i : ℕ) (y : Y) : Type 0 where
+module _ {X Y W : Type 0} (R : X → Y → Type 0) (S : X → W → Type 0) where
+  -- what stands beside the items at an index of two lists
+  pub record Beside (xs : List X) (i : ℕ) (y : Y) (w : W) : Type 0 where
     pub item : X
     pub more : take (i + 1) xs ≡ take i xs ++ item ∷ []
     pub is : R item y
+    pub has : S item w
 
-  beside : (xs : List X) (ys : List Y) (i : ℕ) (d : Y) → i < length ys → AllZip R xs ys → Beside xs i (get_or ys i d)
-  beside [] [] i d lt z = absurd (omega arith)
-  beside [] (y ∷ ys) i d lt z = absurd z
-  beside (x ∷ xs) [] i d lt z = absurd z
-  beside (x ∷ xs) (y ∷ ys) zero d lt z = record { item = x; more = refl; is = z.0 }
-  beside (x ∷ xs) (y ∷ ys) (suc i) d lt z =
-      let b = beside xs ys i d (omega arith) z.1 in
+  beside : (xs : List X) (ys : List Y) (ws : List W) (i : ℕ) (d : Y) (e : W) → i < length ys → AllZip R xs ys → AllZip S xs ws → Beside xs i (get_or ys i d) (get_or ws i e)
+  beside [] [] ws i d e lt z m = absurd (omega arith)
+  beside [] (y ∷ ys) ws i d e lt z m = absurd z
+  beside (x ∷ xs) [] ws i d e lt z m = absurd z
+  beside (x ∷ xs) (y ∷ ys) [] i d e lt z m = absurd m
+  beside (x ∷ xs) (y ∷ ys) (w ∷ ws) zero d e lt z m = record { item = x; more = refl; is = z.0; has = m.0 }
+  beside (x ∷ xs) (y ∷ ys) (w ∷ ws) (suc i) d e lt z m =
+      let b = beside xs ys ws i d e (omega arith) z.1 m.1 in
       let k : suc i + 1 ≡ suc (i + 1) = omega arith in
-      record { item = b.item; more = ap (λ (n : ℕ). take n (x ∷ xs)) k ∙ ap (λ (us : List X). x ∷ us) b.more; is = b.is }
+      record { item = b.item; more = ap (λ (n : ℕ). take n (x ∷ xs)) k ∙ ap (λ (us : List X). x ∷ us) b.more; is = b.is; has = b.has }
 
-  pub beside-at : (xs : List X) (ys : List Y) (i : ℕ) (y : Y) → i < length ys → y ≡ get_or ys i y → AllZip R xs ys → Beside xs i y
-  beside-at xs ys i y lt at z = subst (λ (v : Y). Beside xs i v) (sym at) (beside xs ys i y lt z)
+  pub beside-at : (xs : List X) (ys : List Y) (ws : List W) (i : ℕ) (y : Y) (w : W) → i < length ys → y ≡ get_or ys i y → w ≡ get_or ws i w → AllZip R xs ys → AllZip S xs ws → Beside xs i y w
+  beside-at xs ys ws i y w lt at on z m = subst (λ (v : Y). Beside xs i v w) (sym at) (subst (λ (v : W). Beside xs i (get_or ys i y) v) (sym on) (beside xs ys ws i y w lt z m))
+
+module _ {X Y : Type 0} (R : X → Y → Type 0) where
+  both_at : (xs : List X) (ys : List Y) (i : ℕ) (d : X) (e : Y) → i < length xs → AllZip R xs ys → R (get_or xs i d) (get_or ys i e)
+  both_at [] ys i d e lt z = absurd (omega arith)
+  both_at (x ∷ xs) [] i d e lt z = absurd z
+  both_at (x ∷ xs) (y ∷ ys) zero d e lt z = z.0
+  both_at (x ∷ xs) (y ∷ ys) (suc i) d e lt z = both_at xs ys i d e (omega arith) z.1
+
+  pub both-at : (xs : List X) (ys : List Y) (i : ℕ) (x : X) (y : Y) → i < length xs → x ≡ get_or xs i x → y ≡ get_or ys i y → AllZip R xs ys → R x y
+  both-at xs ys i x y lt at on z = subst (λ (v : X). R v y) (sym at) (subst (λ (v : Y). R (get_or xs i x) v) (sym on) (both_at xs ys i x y lt z))
+
+  -- what stands beside an item at a number
+  pub standing-at : (xs : List X) (ys : List Y) (i : ℕ) (x : X) (y : Y) → slice_get xs i ≡ Some x → y ≡ get_or ys i y → AllZip R xs ys → R x y
+  standing-at [] ys i x y e at z = absurd cc
+  standing-at (u ∷ xs) [] i x y e at z = absurd z
+  standing-at (u ∷ xs) (v ∷ ys) zero x y e at z = let same : u ≡ x = cc in subst (λ (t : X). R t y) same (subst (λ (t : Y). R u t) (sym at) z.0)
+  standing-at (u ∷ xs) (v ∷ ys) (suc i) x y e at z = standing-at xs ys i x y e at z.1
 
   pub all-taken : (xs : List X) (ys : List Y) (n : ℕ) → length ys ≤ n → AllZip R xs ys → take n xs ≡ xs
   all-taken xs ys n le z = take_all n xs (let e : length xs ≡ length ys = zip-length R xs ys z in omega (arith, e, le))
 
--- the sets of one advisory more
-pub grouped-more : {Z : Type 0} (p : List Past) (r : Advisory) (rest : List Advisory) (sets : List (Arc Known Z)) (count : ℕ) → count ≡ git_ranges r.affected
-    → AllZip (IsSetOf p) (ranges_of r ++ flat_map ranges_of rest) (map (λ a. arc_value a) sets)
-    → AreSetsOf p r (take count sets) × AllZip (IsSetOf p) (flat_map ranges_of rest) (map (λ a. arc_value a) (drop count sets))
-grouped-more {Z = Z} p r rest sets count e z =
-    let n : length (ranges_of r) ≡ count = range-count r ∙ sym e in
-    let see : Arc Known Z → Known = λ a. arc_value a in (
-      subst (λ (ks : List Known). AllZip (IsSetOf p) (ranges_of r) ks) (ap (λ (k : ℕ). take k (map see sets)) n ∙ take-map see count sets) (zip-take (IsSetOf p) (ranges_of r) (flat_map ranges_of rest) (map see sets) z),
-      subst (λ (ks : List Known). AllZip (IsSetOf p) (flat_map ranges_of rest) ks) (ap (λ (k : ℕ). drop k (map see sets)) n ∙ drop-map see count sets) (zip-drop (IsSetOf p) (ranges_of r) (flat_map ranges_of rest) (map see sets) z),
+-- what stands beside the ranges of one advisory more
+pub grouped-more : {Y : Type 0} (R : GitRange → Y → Type 0) (r : Advisory) (rest : List Advisory) (ys : List Y) (count : ℕ) → count ≡ git_ranges r.affected → AllZip R (ranges_of r ++ flat_map ranges_of rest) ys
+    → AllZip R (ranges_of r) (take count ys) × AllZip R (flat_map ranges_of rest) (drop count ys)
+grouped-more R r rest ys count e z =
+    let n : length (ranges_of r) ≡ count = range-count r ∙ sym e in (
+      subst (λ (k : ℕ). AllZip R (ranges_of r) (take k ys)) n (zip-take R (ranges_of r) (flat_map ranges_of rest) ys z),
+      subst (λ (k : ℕ). AllZip R (flat_map ranges_of rest) (drop k ys)) n (zip-drop R (ranges_of r) (flat_map ranges_of rest) ys z),
     )
 
 pub taken-more : {X Y : Type 0} (see : X → Y) (xs : List X) (i : ℕ) (a : X) → i < length xs → a ≡ get_or xs i a → map see (take (i + 1) xs) ≡ map see (take i xs) ++ see a ∷ []

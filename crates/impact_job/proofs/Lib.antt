@@ -8,3 +8,4 @@ pub mod Deciding
 pub mod Listing
 pub mod Lookups
 pub mod Grouping
+pub mod Moving

@@ -1,5 +1,5 @@
 -- A merge of advisories, and what is to be done for their GIT ranges.
-use Rattle.std.proofs.Common.{◌≡◌, ℕ, ◌+◌, ◌<◌, get_or, Bool, true, false, ◌||◌, List, [], ◌∷◌, ◌++◌, map, drop, length, Option, Some, None, Ordering, Less, Greater, is_eq, bytes_eq, refl, sym, ap, subst, ◌∙◌, append_assoc}
+use Rattle.std.proofs.Common.{◌≡◌, ℕ, ◌+◌, ◌<◌, get_or, Bool, true, false, ◌||◌, List, [], ◌∷◌, ◌++◌, drop, length, Option, Ordering, Less, Greater, is_eq, bytes_eq, refl, sym, ap, subst, ◌∙◌, append_assoc}
 use Rattle.std.specs.Prelude.{flat_map}
 use Rattle.std.specs.Option.{option_to_list}
 use Rattle.std.specs.List.{AllZip, AllByRecursion}
@@ -16,7 +16,7 @@ use Rattle.evaluate.proofs.Ascending.{by_id, turned, Below, Ascending, below-tra
 use Rattle.history.specs.declared.past.Past.{Past}
 use Rattle.history.specs.Prefixes.{advisories, records}
 use Rattle.history.specs.Lookups.{has_import}
-use Rattle.history.specs.Pieces.{GitRange, ranges_of, git_ranges_in}
+use Rattle.history.specs.Pieces.{GitRange, ranges_of}
 use Rattle.history.proofs.Records.{has_id-records_from, records-again, records-more}
 use Rattle.history.proofs.Prefixes.{records-of_parts}
 use Rattle.impact_set.specs.Standing.{Known}

@@ -1,5 +1,5 @@
 -- What tables, a prefix and a plan stand for (our own).
-use Rattle.std.specs.Prelude.{◌≡◌, ◌≢◌, ℕ, List, [], ◌∷◌, ◌++◌, Bool, length, map, drop, if◌then◌else◌}
+use Rattle.std.specs.Prelude.{◌≡◌, ◌≢◌, ℕ, List, [], ◌∷◌, ◌++◌, Bool, true, Option, IfSome, is_some, length, map, drop, if◌then◌else◌}
 use Rattle.std.specs.List.{AllZip, list_any}
 use Rattle.std.specs.Arc.{arc_value}
 use Rattle.std.specs.Str.{bytes_eq}
@@ -14,6 +14,7 @@ use Rattle.history.specs.Prefixes.{advisories, records, graphs}
 use Rattle.history.specs.Lookups.{has_grow}
 use Rattle.history.specs.Pieces.{GitRange, ranges_of, git_ranges_in, kind_of}
 use Rattle.impact_set.specs.Standing.{Known}
+use Rattle.record_moves.specs.Moved.{IsMoved}
 use Rattle.piece_work.specs.declared.piece.Piece as to_do
 use Rattle.piece_work.specs.Pieces.{IsPieceOf}
 use Rattle.piece_work.specs.Sets.{IsSetOf}
@@ -21,6 +22,7 @@ use Rattle.impact_job.specs.declared.tables.Tables.{Tables}
 use Rattle.impact_job.specs.declared.tables.Todo.{Todo}
 use Rattle.impact_job.specs.declared.tables.Todo.TheVariants.{Carried, Piece}
 use Rattle.impact_job.specs.declared.tables.Plan.{Plan}
+use Rattle.impact_job.specs.declared.tables.Filled.{Filled}
 use Rattle.impact_job.specs.declared.prefix.Prefix.{Prefix}
 
 -- the values that are shared
@@ -91,9 +93,33 @@ pub record IsPlanOf (plan : Plan) (b p : List Past) : Type 0 where
   pub upto : plan.upto ≡ length p
   pub kept : seen (arc_value plan.records).items ≡ records p
   pub grown : repos_seen (arc_value plan.repos).items ≡ graphs p
+  -- the advisories of the first imports are among them where it is said
+  pub moved : IsMoved plan.moves (records b) (records p)
   -- what is to be done for each GIT range, by advisory, entry and range
   pub todo : AllZip (IsTodoOf b p) (git_ranges_in p) plan.todo.items
 
 -- the plan is that of some build
 abbrev pub IsSomePlan : Plan → Type 0
 IsSomePlan plan = (b : List Past) × ((p : List Past) × IsPlanOf plan b p)
+
+-- the set that was made for a range is that of the range
+abbrev pub IsMadeFor : {Z : Type 0} → List Past → GitRange → Option (Arc Known Z) → Type 0
+IsMadeFor p x made = IfSome made (λ set. IsSetOf p x (arc_value set))
+
+-- a set was made, unless one is carried on
+abbrev pub HasSet : {Z : Type 0} → Todo → Option (Arc Known Z) → Type 0
+HasSet (Carried set) made = Unit {0}
+HasSet (Piece piece) made = is_some made ≡ true
+
+-- the plan is that of a build over the imports p which stands on the first of them, b, and all its pieces are done
+pub record IsFilledOf (filled : Filled) (b p : List Past) : Type 0 where
+  pub plan : IsPlanOf (arc_value filled.plan) b p
+  pub made : AllZip (IsMadeFor p) (git_ranges_in p) filled.made.items
+  pub whole : AllZip HasSet (arc_value filled.plan).todo.items filled.made.items
+
+abbrev pub filled_upto : Filled → ℕ
+filled_upto filled = plan_upto (arc_value filled.plan)
+
+-- the pieces of some build are done
+abbrev pub IsSomeFilled : Filled → Type 0
+IsSomeFilled filled = (b : List Past) × ((p : List Past) × IsFilledOf filled b p)

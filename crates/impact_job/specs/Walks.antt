@@ -1,17 +1,15 @@
 -- What a walk over advisories knows that lists what a build is to do (our own).
-use Rattle.std.specs.Prelude.{◌≡◌, ◌++◌, ℕ, List, [], ◌∷◌, Bool, true, false, Option, None, length, map, drop, is_some, MatchOption}
-use Rattle.std.specs.List.{AllZip, AllByRecursion}
+use Rattle.std.specs.Prelude.{◌≡◌, ◌++◌, ℕ, List, [], Bool, true, false, Option, None, length, map, drop, is_some, MatchOption}
+use Rattle.std.specs.List.{AllZip}
 use Rattle.std.specs.Arc.{arc_value}
 use Rattle.std.specs.declared.sync.Arc.{Arc}
 use Rattle.std.specs.Borrow.{Bor}
 use mathlib.Core.List.{IsPrefix}
 use Rattle.osv_prim.specs.declared.oid.CommitRow.{CommitRow}
-use Rattle.osv_record.specs.Advisories.{Advisory}
-use Rattle.osv_record.specs.Imports.{has_id}
 use Rattle.evaluate.specs.Hits.{Repo, graph_of}
 use Rattle.history.specs.declared.past.Past.{Past}
 use Rattle.history.specs.Prefixes.{graphs}
-use Rattle.history.specs.Lookups.{has_import, has_grow}
+use Rattle.history.specs.Lookups.{has_grow}
 use Rattle.history.specs.Pieces.{GitRange, git_ranges_in}
 use Rattle.impact_set.specs.Standing.{Known}
 use Rattle.piece_work.specs.Sets.{IsSetOf}

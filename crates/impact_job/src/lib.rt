@@ -4,7 +4,8 @@
 //! let mut prefix = Prefix::over(alloc, base);
 //! prefix.import(advisory)?;
 //! let plan = plan(alloc, &prefix)?;
-//! let tables = tables_of(alloc, &plan, steps)?;
+//! let set = set_of(alloc, &plan, 0, steps)?;
+//! let tables = tables_of(alloc, &Filled { plan, made })?;
 //! ```
 #![tactic(auto)]
 
@@ -12,6 +13,8 @@ mod building;
 mod by_repo;
 mod latest;
 mod merge;
+mod moves;
+mod piece_sets;
 mod planning;
 mod prefix;
 mod repos;
@@ -20,7 +23,8 @@ mod tables;
 mod todo;
 
 pub use building::tables_of;
+pub use piece_sets::set_of;
 pub use planning::plan;
 pub use prefix::Prefix;
 pub use split::{Split, split_at_id};
-pub use tables::{Plan, Tables, Todo, first_sets};
+pub use tables::{Filled, Plan, Tables, Todo, first_sets};

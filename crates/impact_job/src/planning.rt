@@ -5,6 +5,7 @@ ghost use Rattle.impact_job.specs.Tables.{IsPrefixOf, IsPlanOf, plan_upto};
 use crate::by_repo::Graphs;
 use crate::latest::last_of_each_id;
 use crate::merge::merged;
+use crate::moves::moves_of;
 use crate::prefix::Prefix;
 use crate::repos::repos_of;
 use crate::tables::Plan;
@@ -14,7 +15,7 @@ use std::alloc::Global;
 use std::sync::Arc;
 
 /// The plan of a build. It takes one `Arc` more for each advisory of the base and for each of its sets that
-/// stays, O(n log n) comparisons of ids for the added ones, and one look-up for each repository, each Grow
+/// stays, 4 bytes for each advisory of the base, O(n log n) comparisons of ids for the added ones, and one look-up for each repository, each Grow
 /// and each GIT range. It reads an advisory's GIT ranges, and no row. Only memory can fail.
 pub fn plan(alloc: Global, prefix: &Prefix) -> Result<Plan, Memory>
     ensures plan { (b p : List Past) → IsPrefixOf prefix.now b p → IfOk result (λ x. IsPlanOf x b p) }
@@ -22,6 +23,7 @@ pub fn plan(alloc: Global, prefix: &Prefix) -> Result<Plan, Memory>
 {
     let changed = last_of_each_id(alloc, prefix.added.as_slice())?;
     let records = merged(alloc, prefix.base.records.as_slice(), changed.as_slice())?;
+    let moves = moves_of(alloc, prefix.base.records.as_slice(), changed.as_slice())?;
     let graphs = Graphs::of(alloc, prefix)?;
     let todo = todo_of(alloc, &prefix.base, changed.as_slice(), &graphs)?;
     let Graphs { all, .. } = graphs;
@@ -30,6 +32,7 @@ pub fn plan(alloc: Global, prefix: &Prefix) -> Result<Plan, Memory>
         upto: prefix.upto,
         records: Arc::new(alloc, records)?,
         repos: Arc::new(alloc, repos)?,
+        moves,
         todo,
     })
 }

@@ -9,6 +9,7 @@ use impact_set::ImpactSet;
 use osv_prim::{List, RepoKey};
 use osv_record::Record;
 use piece_work::Piece;
+use record_moves::Moves;
 use std::sync::Arc;
 
 /// What a snapshot keeps of its imports: the last import of each id, ascending by id, the graph of each
@@ -40,11 +41,13 @@ pub struct Plan {
     pub upto: u64,
     pub records: Arc<Vec<Arc<Record>>>,
     pub repos: Arc<Vec<(RepoKey, Arc<Graph>)>>,
+    /// Where the advisories of the tables before are among these.
+    pub moves: Moves,
     pub todo: Vec<Todo>,
 }
 
 impl Plan {
-    ghost use Rattle.std.specs.Prelude.{◌≡◌};
+    ghost use Rattle.std.specs.Prelude.{◌≡◌, length};
     ghost use Rattle.impact_job.specs.Tables.{plan_upto};
 
     /// How many imports the build is of.
@@ -52,6 +55,33 @@ impl Plan {
         ensures { result ≡ plan_upto self.now }
     {
         self.upto
+    }
+
+    /// How many pieces the build has: one for each GIT range, also where its set is carried on.
+    pub fn pieces(&self) -> usize
+        ensures { result ≡ length self.now.todo.items }
+    {
+        self.todo.len()
+    }
+}
+
+/// A plan with the sets that its pieces made.
+#[derive(Drop)]
+pub struct Filled {
+    pub plan: Arc<Plan>,
+    /// For each GIT range the set that its piece made; none where the plan carries one on.
+    pub made: Vec<Option<Arc<ImpactSet>>>,
+}
+
+impl Filled {
+    ghost use Rattle.std.specs.Prelude.{◌≡◌};
+    ghost use Rattle.impact_job.specs.Tables.{filled_upto};
+
+    /// How many imports the build is of.
+    pub fn upto(&self) -> u64
+        ensures { result ≡ filled_upto self.now }
+    {
+        self.plan.upto
     }
 }
 

@@ -1,14 +1,13 @@
-use Rattle.std.proofs.Common.{List, sym, subst}
-use Rattle.std.specs.List.{AllByRecursion}
-use Rattle.history.specs.Pieces.{git_ranges_in}
+use Rattle.std.proofs.Common.{List, ap, sym, subst, ◌∙◌}
+use Rattle.std.specs.Arc.{arc_value}
+use Rattle.std.specs.List.{AllZip}
+use Rattle.impact_job.specs.declared.tables.Plan.{Plan}
 use Rattle.impact_job.specs.declared.tables.Todo.{Todo}
-use Rattle.impact_job.specs.Walks.{CanBeDone}
-use Rattle.impact_job.proofs.Grouping.{can-each}
+use Rattle.impact_job.specs.Tables.{HasSet}
 use Rattle.impact_job.proofs.building.tables_of.Goals as goal
 
-pub done_of-requires : goal.done_of-requires
-done_of-requires g c =
-    let b = c.requires.0 in
-    let p = c.requires.1.0 in
-    let is = c.requires.1.1 in
-    subst (λ (ts : List Todo). AllByRecursion CanBeDone ts) (sym c.as_slice.ensures.value) (can-each b p is.front (git_ranges_in p) c.args.plan.now.todo.items is.todo)
+pub by_advisory-requires : goal.by_advisory-requires
+by_advisory-requires c =
+    let whole = c.requires.1.1.whole in
+    let todo = c.as_slice-todo.ensures.value ∙ ap (λ (x : Plan). x.todo.items) c.deref.ensures in
+    subst (λ (ts : List Todo). AllZip HasSet ts c.as_slice-made.result.now) (sym todo) (subst (λ vs. AllZip HasSet (arc_value c.args.filled.now.plan).todo.items vs) (sym c.as_slice-made.ensures.value) whole)

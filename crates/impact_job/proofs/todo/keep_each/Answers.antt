@@ -1,11 +1,11 @@
-use Rattle.std.proofs.Common.{◌≡◌, ℕ, ◌+◌, false, List, [], ◌∷◌, ◌++◌, length, map, drop, ap, subst, ◌∙◌, arith}
+use Rattle.std.proofs.Common.{◌≡◌, ℕ, ◌+◌, false, List, [], ◌++◌, map, drop, ap, subst, arith}
 use Rattle.std.specs.Prelude.{flat_map}
 use Rattle.std.specs.Arc.{arc_value}
 use Rattle.std.specs.List.{AllZip, AllByRecursion}
 use Rattle.std.proofs.lemmas.List.{drop_all}
 use Rattle.osv_record.specs.Advisories.{Advisory}
 use Rattle.history.specs.Lookups.{has_import}
-use Rattle.history.specs.Pieces.{GitRange, ranges_of}
+use Rattle.history.specs.Pieces.{ranges_of}
 use Rattle.impact_job.specs.Tables.{AreSetsOf}
 use Rattle.impact_job.specs.Walks.{IsBegun}
 use Rattle.impact_job.proofs.Deciding.{came}

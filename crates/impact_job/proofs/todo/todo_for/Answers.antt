@@ -1,4 +1,4 @@
-use Rattle.std.proofs.Common.{Option, Bor, ap, sym, subst, refl, length, drop, ◌∙◌}
+use Rattle.std.proofs.Common.{Option, ap, sym, subst, refl, ◌∙◌}
 use Rattle.std.specs.Prelude.{option_map}
 use Rattle.std.specs.Arc.{arc_value}
 use Rattle.history.specs.Prefixes.{graph}

@@ -1,4 +1,4 @@
-use Rattle.std.proofs.Common.{◌≡◌, ℕ, ◌+◌, true, List, [], ◌∷◌, ◌++◌, length, map, drop, refl, ap, sym, subst, ◌∙◌, arith}
+use Rattle.std.proofs.Common.{◌≡◌, ℕ, ◌+◌, true, List, [], ◌∷◌, ◌++◌, map, drop, refl, ap, sym, subst, ◌∙◌, arith}
 use Rattle.std.specs.Prelude.{Option, option_map, flat_map}
 use Rattle.std.specs.Option.{option_to_list}
 use Rattle.std.specs.Arc.{arc_value}
@@ -11,7 +11,6 @@ use Rattle.evaluate.proofs.Ascending.{is_sorted}
 use Rattle.history.specs.Prefixes.{records}
 use Rattle.history.specs.Pieces.{GitRange, ranges_of}
 use Rattle.impact_job.specs.Order.{IsSplit}
-use Rattle.impact_job.specs.declared.tables.Tables.{Tables}
 use Rattle.impact_job.specs.Tables.{AreSetsOf}
 use Rattle.impact_job.specs.Walks.{IsBegun}
 use Rattle.impact_job.proofs.Merging.{front-next}

@@ -1,7 +1,6 @@
-use Rattle.std.proofs.Common.{List, Option, ap, sym, ◌∙◌}
-use Rattle.std.specs.Prelude.{option_map, is_some}
+use Rattle.std.proofs.Common.{ap, ◌∙◌}
+use Rattle.std.specs.Prelude.{is_some}
 use Rattle.std.specs.Arc.{arc_value}
-use Rattle.evaluate.specs.Hits.{Repo, graph_of}
 use Rattle.impact_job.proofs.Lookups.{looked_up, some-map}
 use Rattle.impact_job.proofs.by_repo.Graphs.has_grown.Goals as goal
 

@@ -4,7 +4,7 @@ use Rattle.std.proofs.lemmas.Result.{IfOk-weaker}
 use Rattle.impact_job.specs.declared.tables.Todo.{Todo}
 use Rattle.impact_job.specs.Tables.{IsTodoOf}
 use Rattle.impact_job.proofs.Grouping.{piece-set}
-use Rattle.impact_job.proofs.building.set_of.Goals as goal
+use Rattle.impact_job.proofs.piece_sets.set_for.Goals as goal
 
 pub returns-in-Piece : goal.returns-in-Piece
 returns-in-Piece g c = λ b p x is.

@@ -1,6 +1,0 @@
-use Rattle.std.proofs.Common.{◌≡◌, map, take}
-use Rattle.std.specs.Arc.{arc_value}
-use Rattle.impact_job.proofs.building.copies.Given as goal
-
-abbrev pub invariant-loop-set : goal.invariant-loop-set
-invariant-loop-set l = map (λ a. arc_value a) l.own.items ≡ map (λ a. arc_value a) (take l.set-index l.sets)
