@@ -3,6 +3,7 @@ use Rattle.std.specs.Prelude.{◌≡◌, ℕ, ◌+◌, ◌<◌, ◌≤◌, min, 
 use mathlib.Core.List.{IsPrefix}
 use Rattle.osv_prim.specs.declared.memory.Memory.{Memory}
 use Rattle.settings.specs.declared.Settings.{Settings}
+use Rattle.settings.specs.declared.TheConstants.{MAX_WEIGHT}
 use Rattle.turn_lock.specs.declared.note.Note.{Note}
 use Rattle.turn_lock.specs.declared.note.Last.{Last}
 use Rattle.turn_lock.specs.History.{entries_by, saturating_next}
@@ -38,10 +39,11 @@ pub record Caller : Type 0 where
   -- its calls, and the notes that the last one found and left
   pub last : Last
 
--- what holds of each caller: the entries that it knows are a legal history within the limit
+-- What holds of each caller: the entries that it knows are a legal history within the limit, which is at most the greatest that a book takes where nobody else acts on the book.
 pub record IsKnown (c : Caller) : Type 0 where
   pub legal : IsLegal c.front
   pub within : weight c.front ≤ c.settings.weight
+  pub limit : IfSome c.alone (λ build. c.settings.weight ≤ MAX_WEIGHT)
 
 -- the call after a last one that found and left these notes
 abbrev pub turned : Last → Note → Note → Last

@@ -1,7 +1,7 @@
 //! Immutable snapshots of imports, which answer queries, and the jobs that make them.
 //!
 //! ```
-//! let snapshot = assemble(alloc, &plan, steps)?;
+//! let snapshot = assemble(alloc, &base, &filled)?;
 //! let page = snapshot.answer(alloc, &subject, None, 100, steps)?;
 //! let advisory = snapshot.find(&id);
 //! ```
@@ -17,7 +17,7 @@ mod snapshot;
 mod work;
 
 pub use assembly::assemble;
-pub use job::{Finished, Job};
+pub use job::{Finished, Job, Place};
 pub use page::Page;
 pub use snapshot::Snapshot;
 pub use work::do_job;
