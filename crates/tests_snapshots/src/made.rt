@@ -1,11 +1,11 @@
 ghost use Rattle.std.specs.Prelude.{List, IfOk};
 ghost use Rattle.std.specs.Arc.{arc_value};
 ghost use Rattle.history.specs.declared.past.Past.{Past};
-ghost use Rattle.impact_job.specs.Tables.{IsPrefixOf};
+ghost use Rattle.impact_job.specs.Tables.{IsPrefixOf, IsFilledOf};
 ghost use Rattle.snapshot.specs.Snapshots.{StandsFor};
 
-use gate::OpenGate;
-use impact_job::Prefix;
+use crate::pieces::{CallCount, filled_of};
+use impact_job::{Filled, Prefix};
 use osv_prim::{Ledger, Memory, Steps};
 use osv_record::Record;
 use snapshot::{Finished, Job, Snapshot, do_job};
@@ -19,6 +19,7 @@ pub struct Store {
     imports: Vec<Arc<Record>>,
     counts: Vec<usize>,
     waiting: usize,
+    gate: CallCount,
 }
 
 impl Store {
@@ -28,6 +29,7 @@ impl Store {
             imports: Vec::new(alloc),
             counts: Vec::new(alloc),
             waiting: 0,
+            gate: CallCount::new(),
         })
     }
 
@@ -41,7 +43,8 @@ impl Store {
         Ok(String::from_str(alloc, "imported")?)
     }
 
-    /// Makes the next snapshot by its jobs, and those before it once more.
+    /// Makes the next snapshot by its jobs, and those before it once more. Tells how often the gate was
+    /// called before a piece and after one.
     pub fn publish<L: Ledger>(
         &mut self,
         alloc: Global,
@@ -50,11 +53,15 @@ impl Store {
         self.counts.push(self.waiting)?;
         self.waiting = 0;
         let (imports, counts) = (self.imports.as_slice(), self.counts.as_slice());
-        let snapshot = last_of(alloc, imports, counts, steps)?;
+        self.gate = CallCount::new();
+        let snapshot = last_of(alloc, imports, counts, &self.gate, steps)?;
         let upto = snapshot.upto();
         let kept = snapshot.tables().records.len();
+        let (before, after) = self.gate.counts();
         self.snapshot = snapshot;
-        Ok(format!(in alloc; "{upto} imports, {kept} advisories")?)
+        Ok(format!(in alloc;
+            "{upto} imports, {kept} advisories, gate {before} before, {after} after"
+        )?)
     }
 }
 
@@ -63,13 +70,15 @@ fn last_of<L: Ledger>(
     alloc: Global,
     imports: &[Arc<Record>],
     counts: &[usize],
+    gate: &CallCount,
     steps: &mut Steps<L>,
 ) -> Result<Arc<Snapshot>, Memory> {
     let mut snapshot = first(alloc)?;
     let mut rest = imports;
     for count in counts {
         let (added, later) = rest.split_at((*count).min(rest.len()));
-        snapshot = built(alloc, prefix_of(alloc, &snapshot, added)?, steps)?;
+        let prefix = prefix_of(alloc, &snapshot, added)?;
+        snapshot = built(alloc, snapshot, prefix, gate, steps)?;
         rest = later;
     }
     Ok(snapshot)
@@ -86,8 +95,7 @@ fn prefix_of(
     snapshot: &Snapshot,
     added: &[Arc<Record>],
 ) -> Result<Arc<Prefix>, Memory>
-    requires { (b : List Past) × StandsFor snapshot.now b }
-    ensures { IfOk result (λ x. (b : List Past) × ((p : List Past) × IsPrefixOf (arc_value x) b p)) }
+    ensures { (b : List Past) → StandsFor snapshot.now b → IfOk result (λ x. (p : List Past) × IsPrefixOf (arc_value x) b p) }
 {
     let prefix = with_each(
         Prefix::over(alloc, Arc::try_clone(snapshot.tables())?),
@@ -108,18 +116,41 @@ fn with_each(prefix: Prefix, added: &[Arc<Record>]) -> Result<Prefix, Memory>
 
 fn built<L: Ledger>(
     alloc: Global,
+    base: Arc<Snapshot>,
     prefix: Arc<Prefix>,
+    gate: &CallCount,
     steps: &mut Steps<L>,
 ) -> Result<Arc<Snapshot>, Memory>
-    requires { (b : List Past) × ((p : List Past) × IsPrefixOf (arc_value prefix) b p) }
+    requires { (b : List Past) × ((p : List Past) × (StandsFor (arc_value base) b × IsPrefixOf (arc_value prefix) b p)) }
     ensures { IfOk result (λ s. (p : List Past) × StandsFor (arc_value s) p) }
 {
-    let plan = match do_job(alloc, Job::Plan { build: 1, prefix }, &OpenGate, steps) {
-        Ok(Finished::Plan { plan, .. }) => plan,
-        _ => return Err(Memory),
+    let filled = filled(alloc, prefix, gate, steps)?;
+    let job = Job::Assemble {
+        build: 1,
+        base,
+        filled,
     };
-    match do_job(alloc, Job::Assemble { build: 1, plan }, &OpenGate, steps) {
+    match do_job(alloc, job, gate, steps) {
         Ok(Finished::Assemble { snapshot, .. }) => Ok(snapshot),
+        _ => Err(Memory),
+    }
+}
+
+// The plan with its pieces done.
+fn filled<L: Ledger>(
+    alloc: Global,
+    prefix: Arc<Prefix>,
+    gate: &CallCount,
+    steps: &mut Steps<L>,
+) -> Result<Arc<Filled>, Memory>
+    requires { (b : List Past) × ((p : List Past) × IsPrefixOf (arc_value prefix) b p) }
+    ensures { (b p : List Past) → IsPrefixOf (arc_value prefix) b p → IfOk result (λ f. IsFilledOf (arc_value f) b p) }
+{
+    match do_job(alloc, Job::Plan { build: 1, prefix }, gate, steps) {
+        Ok(Finished::Plan { plan, places, .. }) => {
+            let filled = filled_of(alloc, plan, places.as_slice(), gate, steps)?;
+            Ok(Arc::new(alloc, filled)?)
+        }
         _ => Err(Memory),
     }
 }

@@ -3,6 +3,7 @@
 
 mod asked;
 mod made;
+mod pieces;
 
 ghost use Rattle.std.specs.Prelude.{◌≡◌, ◌≤◌};
 
