@@ -1,52 +1,41 @@
 -- What each step leaves of what a book keeps.
-use Rattle.std.proofs.Common.{◌≡◌, ℕ, zero, suc, ◌+◌, ◌-◌, ◌*◌, ◌^◌, ◌<◌, ◌≤◌, List, [], ◌∷◌, ◌++◌, length, map, take, drop, refl, sym, ap, subst, ◌∙◌, arith, length-append}
-use Rattle.std.specs.Prelude.{Option, Some, None, Ok, Err, IfSome, IsSomeAnd, All}
+use Rattle.std.proofs.Common.{◌≡◌, ℕ, ◌+◌, ◌-◌, ◌*◌, ◌^◌, ◌<◌, ◌≤◌, List, [], ◌∷◌, ◌++◌, length, take, refl, sym, ap, subst, ◌∙◌, arith, length-append}
+use Rattle.std.specs.Prelude.{Option, Some, None, Ok, IfSome}
 use Rattle.std.proofs.Math.Seq.{take-length}
 use Rattle.std.proofs.lemmas.List.Elements.{All-nil}
-use Rattle.osv_prim.specs.declared.memory.Memory.{Memory}
 use Rattle.settings.specs.declared.Settings.{Settings}
 use Rattle.turn_lock.specs.declared.note.Note.{Note}
 use Rattle.history.specs.declared.past.Past.{Past}
 use Rattle.history.specs.declared.past.Past.TheVariants.{Publish}
 use Rattle.history.specs.Entries.{History, caller, imports, newest, upto_of, snap, weight, entry_weight, oldest_kept}
-use Rattle.history.proofs.Entries.{imports-append, weight-append, count-le-weight, few}
+use Rattle.history.proofs.Entries.{imports-append, count-le-weight, few}
 use Rattle.history.proofs.Legality.{legal-empty}
 use Rattle.history.proofs.Conditions.{weight-push}
-use Rattle.book_model.specs.declared.answers.Taken.TheVariants as taken
-use Rattle.book_model.specs.declared.answers.Pulled.TheVariants as pulled
 use Rattle.book_model.specs.declared.answers.Progress.TheVariants as progress
-use Rattle.book_model.specs.State.{Kind, Plan, Assemble, Cell, Free, Build, State, first_note, published, opened, cells_in, with_entry, with_build}
-use Rattle.book_model.specs.Jobs.{StandsIn, owner}
-use Rattle.book_model.specs.Steps.{GoesOut, freed}
-use Rattle.book_model.specs.Sound.{IsOpen, IsSound}
+use Rattle.book_model.specs.State.{Assemble, Build, first_note, published}
+use Rattle.book_model.specs.Jobs.{JobName, StandsIn, owner}
+use Rattle.book_model.specs.Sound.{IsSound}
 use Rattle.book_model.proofs.Owned.{some_weaker, owned}
-use Rattle.book_model.proofs.Sound.{enrols-sound, pulls-sound, takes-sound, finishes-sound, gives_back-sound}
+use Rattle.book_model.proofs.Sound.{enrols-sound, finishes-sound}
 use Rattle.book_model.proofs.Lasting.{stands-lasts}
 use Rattle.snapshot.specs.declared.snapshot.Snapshot.{Snapshot}
-use Rattle.snapshot.specs.declared.job.Job.{Job}
 use Rattle.snapshot.specs.Snapshots.{StandsFor}
-use Rattle.book.specs.Works.{is_work, name_of}
-use Rattle.snapshot.specs.Jobs.{name, IsJob, only}
+use Rattle.impact_job.specs.declared.prefix.Prefix.{Prefix}
+use Rattle.impact_job.specs.Tables.{IsPrefixOf}
+use Rattle.snapshot.specs.Jobs.{only}
 use Rattle.book.specs.declared.build.Open.{Open}
 use Rattle.book.specs.declared.build.Stage.{Stage}
-use Rattle.book.specs.declared.build.Stage.TheVariants as stages
 use Rattle.book.specs.declared.ledger.Counts.{Counts}
-use Rattle.book.specs.Builds.{phase_of, stage_work, build_with, build_of, IsUnderWay}
+use Rattle.book.specs.Builds.{stage_upto, build_of, IsStageOf, IsUnderWay}
 use Rattle.book.specs.Books.{state_of, AreKept, SuitsBook, IsBook}
-use Rattle.book.proofs.Keeping.{IsImport, newest-import, published-import, imports-publish, newest-publish, published-publish, front-stays, kept-lasts, kept-push, kept-rest}
+use Rattle.book.proofs.Handing.{IsOut}
+use Rattle.book.proofs.Keeping.{IsImport, newest-import, published-import, imports-publish, newest-publish, published-publish, front-stays, kept-lasts, kept-push}
 
 -- ---- parts of a build
 
 abbrev upto_in : Option Build → ℕ
 upto_in None = 0
 upto_in (Some q) = q.upto
-
-abbrev phase_in : Option Build → Kind
-phase_in None = Plan
-phase_in (Some q) = q.phase
-
-abbrev with_free : ℕ → Kind → Build
-with_free upto kind = record { upto = upto; phase = kind; cells = Free ∷ [] }
 
 -- ---- a new book
 
@@ -145,7 +134,7 @@ way-lasts : (next : ℕ) (h more : History) (o : Open) → IsUnderWay next h o.u
 way-lasts next h more o w =
     let longer : length (h ++ more) ≡ length h + length more = length-append h more in
     record {
-      holds = stands-lasts (is_work (stage_work next o.stage)) next o.upto h (h ++ more) (more, refl) w.holds;
+      holds = stands-lasts (IsStageOf o.stage) next o.upto h (h ++ more) (more, refl) w.holds;
       named = w.named;
       within = omega (arith, longer, w.within);
       reached = front-stays h more o.place w.within ∙ w.reached;
@@ -222,55 +211,34 @@ book-published settings h callers o note counts kept left by next upto x lt out 
 -- ---- builds
 
 -- the prefix of a build over all imports
-pub opened-way : (settings : Settings) (h : History) (callers : ℕ) (build : Option Open) (note : Note) (counts : Counts) (kept : List Snapshot) (stage : Stage)
-    → published h < length (imports h)
-    → is_work (stage_work (counts.newest + 1) stage) (snap h (newest h)) (imports h)
-    → ((b p : List Past) → is_work (stage_work (counts.newest + 1) stage) b p → (name_of (stage_work (counts.newest + 1) stage)).upto ≡ length p)
-    → IsBook settings h callers build note counts kept → IsUnderWay (counts.newest + 1) h counts.imports (length h) stage
-opened-way settings h callers build note counts kept stage more work upto b =
-    let next : ℕ = counts.newest + 1 in
+pub opened-way : (settings : Settings) (h : History) (callers : ℕ) (build : Option Open) (note : Note) (counts : Counts) (kept : List Snapshot) (x : Prefix)
+    → published h < length (imports h) → IsPrefixOf x (snap h (newest h)) (imports h)
+    → IsBook settings h callers build note counts kept → StandsIn (IsPrefixOf x) (counts.newest + 1) counts.imports h
+opened-way settings h callers build note counts kept x more is b =
     let base : counts.newest + 1 - 1 ≡ newest h = omega (arith, b.newest_is) in
     let whole : take counts.imports (imports h) ≡ imports h = ap (λ (n : ℕ). take n (imports h)) b.imported ∙ take-length (imports h) in
     record {
-      holds = record {
-        within = record {
-          positive = omega arith;
-          published = omega (arith, base);
-          came = omega (arith, b.imported);
-          reaches = subst (λ (s : ℕ). upto_of h s ≤ counts.imports) (sym base) (let lt : published h < length (imports h) = more in omega (arith, lt, b.imported));
-        };
-        stands =
-            subst (λ (s : ℕ). is_work (stage_work (counts.newest + 1) stage) (snap h s) (take counts.imports (imports h))) (sym base)
-            (subst (λ (p : List Past). is_work (stage_work (counts.newest + 1) stage) (snap h (newest h)) p) (sym whole) work);
+      within = record {
+        positive = omega arith;
+        published = omega (arith, base);
+        came = omega (arith, b.imported);
+        reaches = subst (λ (s : ℕ). upto_of h s ≤ counts.imports) (sym base) (let lt : published h < length (imports h) = more in omega (arith, lt, b.imported));
       };
-      named = upto (snap h (newest h)) (imports h) work ∙ sym b.imported;
-      within = omega arith;
-      reached = ap (λ (x : History). length (imports x)) (take-length h) ∙ sym b.imported;
+      stands =
+          subst (λ (s : ℕ). IsPrefixOf x (snap h s) (take counts.imports (imports h))) (sym base)
+          (subst (λ (p : List Past). IsPrefixOf x (snap h (newest h)) p) (sym whole) is);
     }
 
--- the plan of a build was handed in
-pub planned-way : (settings : Settings) (h : History) (callers : ℕ) (o : Open) (note : Note) (counts : Counts) (kept : List Snapshot) (by build upto : ℕ) (stage : Stage)
-    → owner (state_of settings h callers (Some o) note) (only build upto Plan) ≡ Some by
-    → StandsIn (is_work (stage_work build stage)) build upto h → (name_of (stage_work build stage)).upto ≡ upto
-    → IsBook settings h callers (Some o) note counts kept → IsUnderWay (counts.newest + 1) h upto o.place stage
-planned-way settings h callers o note counts kept by build upto stage out st named b =
-    let w = owned (build_of (Some o)) (newest h + 1) (only build upto Plan) by out in
-    let same : upto ≡ o.upto = w.upto ∙ sym (ap (λ (q : Option Build). upto_in q) w.there) in
-    let next : build ≡ counts.newest + 1 = w.build ∙ ap (λ (n : ℕ). n + 1) (sym b.newest_is) in
+-- the next stage of the build that is open
+pub next-way : (settings : Settings) (h : History) (callers : ℕ) (o : Open) (note : Note) (counts : Counts) (kept : List Snapshot) (by : ℕ) (job : JobName) (stage : Stage)
+    → IsOut o (newest h + 1) job by → StandsIn (IsStageOf stage) job.build job.upto h → stage_upto stage ≡ job.upto
+    → IsBook settings h callers (Some o) note counts kept → IsUnderWay (counts.newest + 1) h job.upto o.place stage
+next-way settings h callers o note counts kept by job stage w st named b =
+    let next : job.build ≡ counts.newest + 1 = w.build ∙ ap (λ (n : ℕ). n + 1) (sym b.newest_is) in
     let way : IsUnderWay (counts.newest + 1) h o.upto o.place o.stage = b.underway in
     record {
-      holds = subst (λ (n : ℕ). StandsIn (is_work (stage_work n stage)) n upto h) next st;
-      named = subst (λ (n : ℕ). (name_of (stage_work n stage)).upto ≡ upto) next named;
+      holds = subst (λ (n : ℕ). StandsIn (IsStageOf stage) n job.upto h) next st;
+      named = named;
       within = way.within;
-      reached = way.reached ∙ sym same;
+      reached = way.reached ∙ sym w.upto;
     }
-
--- a job that is given back, of the build that is open
-pub freed-same : (settings : Settings) (h : History) (callers : ℕ) (o : Open) (note : Note) (by build upto : ℕ) (kind : Kind)
-    → owner (state_of settings h callers (Some o) note) (only build upto kind) ≡ Some by
-    → build_with o.upto o.stage None ≡ freed (only build upto kind) (cells_in (build_of (Some o)))
-freed-same settings h callers o note by build upto kind out =
-    let w = owned (build_of (Some o)) (newest h + 1) (only build upto kind) by out in
-    let same : upto ≡ o.upto = w.upto ∙ sym (ap (λ (q : Option Build). upto_in q) w.there) in
-    let at : kind ≡ phase_of o.stage = w.kind ∙ sym (ap (λ (q : Option Build). phase_in q) w.there) in
-    ap (λ (u : ℕ). with_free u (phase_of o.stage)) (sym same) ∙ ap (λ (k : Kind). with_free upto k) (sym at)

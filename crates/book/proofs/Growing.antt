@@ -1,8 +1,7 @@
 -- Rows that come to the graph of a repository.
-use Rattle.std.proofs.Common.{◌≡◌, ℕ, zero, suc, ◌+◌, ◌-◌, ◌*◌, ◌<◌, ◌≤◌, Bool, true, false, cond, List, [], ◌∷◌, ◌++◌, length, fold, take, drop, get_or, refl, sym, ap, subst, ◌∙◌, append_assoc, arith, length-append}
+use Rattle.std.proofs.Common.{◌≡◌, ℕ, zero, suc, ◌+◌, ◌-◌, ◌<◌, ◌≤◌, Bool, true, false, cond, List, [], ◌∷◌, ◌++◌, length, fold, take, drop, get_or, sym, ap, subst, ◌∙◌, append_assoc, arith, length-append}
 use Rattle.std.specs.Prelude.{sum_by}
 use Rattle.std.specs.Str.{bytes_eq}
-use Rattle.std.specs.Arc.{arc_value}
 use mathlib.Core.List.{IsPrefix}
 use Rattle.std.proofs.lemmas.List.{append-nil}
 use Rattle.std.proofs.Math.Seq.{drop-append_seam}
@@ -10,18 +9,16 @@ use Rattle.std.proofs.lemmas.List.Sums.{sum_by-append}
 use Rattle.osv_prim.specs.declared.oid.CommitRow.{CommitRow}
 use Rattle.osv_prim.specs.Graphs.{has, with_row, joined}
 use Rattle.osv_prim.specs.Graphs as of_rows
-use Rattle.osv_record.specs.Advisories.{Advisory}
 use Rattle.commit_graph.specs.Linked.{weight_of}
 use Rattle.history.specs.declared.past.Past.{Past}
 use Rattle.history.specs.declared.past.Past.TheVariants.{Import, Grow, Publish}
 use Rattle.history.specs.Entries.{History, imports, weight, entry_weight}
 use Rattle.history.specs.Prefixes.{grown, grows, graph}
 use Rattle.history.specs.Legality.{Extends}
-use Rattle.history.specs.Conditions.{IsOfVersion}
 use Rattle.history.proofs.Entries.{imports-append}
-use Rattle.history.proofs.Prefixes.{grown-append, grows-append, graph-grown, graph-push, graph-imports}
+use Rattle.history.proofs.Prefixes.{graph-imports}
 use Rattle.history.proofs.Legality.{graph-extended}
-use Rattle.history.proofs.Conditions.{version-now, new_rows}
+use Rattle.history.proofs.Conditions.{new_rows}
 use Rattle.book.specs.declared.entry.Entry.{Entry}
 use Rattle.book.specs.Entries.{past, history_of, IsWhole, AreWhole}
 

@@ -1,10 +1,10 @@
 -- Snapshots that are kept, and the imports of the first so many entries.
-use Rattle.std.proofs.Common.{◌≡◌, ℕ, zero, suc, ◌+◌, ◌-◌, ◌<◌, ◌≤◌, List, [], ◌∷◌, ◌++◌, length, map, take, drop, get_or, refl, sym, ap, subst, ◌∙◌, append_assoc, arith, length-append}
+use Rattle.std.proofs.Common.{◌≡◌, ℕ, zero, suc, ◌+◌, ◌<◌, ◌≤◌, List, [], ◌∷◌, ◌++◌, length, take, drop, get_or, refl, sym, ap, subst, ◌∙◌, arith}
 use Rattle.std.proofs.lemmas.List.{append-nil, take-append-le, take-append-drop}
 use Rattle.std.proofs.Math.Seq.{take-append_seam}
 use Rattle.history.specs.declared.past.Past.{Past}
 use Rattle.history.specs.declared.past.Past.TheVariants.{Import, Grow, Publish}
-use Rattle.history.specs.Entries.{History, imports, uptos, newest, upto_of, snap, oldest_kept}
+use Rattle.history.specs.Entries.{History, imports, uptos, newest, snap}
 use Rattle.history.specs.Legality.{IsLegal}
 use Rattle.history.proofs.Entries.{imports-append, uptos-append, newest-append}
 use Rattle.history.proofs.Legality.{snap-stays-legal}

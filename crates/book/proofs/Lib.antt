@@ -1,3 +1,5 @@
+pub mod Placing
+pub mod Staging
 pub mod Handing
 pub mod Keeping
 pub mod Growing
@@ -5,3 +7,4 @@ pub mod Books
 pub mod Numbers
 pub mod Repositories
 pub mod Opening
+pub mod Going

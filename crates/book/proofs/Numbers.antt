@@ -1,14 +1,13 @@
 -- Numbers of a book, and snapshots that are kept in it.
-use Rattle.std.proofs.Common.{◌≡◌, ℕ, ◌+◌, ◌-◌, ◌*◌, ◌<◌, ◌≤◌, List, length, get_or, refl, sym, ap, subst, ◌∙◌, arith}
-use Rattle.std.specs.Prelude.{Option, Some, None}
+use Rattle.std.proofs.Common.{◌≡◌, ℕ, ◌+◌, ◌-◌, ◌<◌, ◌≤◌, List, length, get_or, sym, ap, subst, ◌∙◌, arith}
+use Rattle.std.specs.Prelude.{Option}
 use Rattle.std.specs.Arc.{arc_value}
 use Rattle.std.specs.declared.sync.Arc.{Arc}
 use Rattle.std.proofs.Math.ListN.{get_or-map}
 use Rattle.std.proofs.lemmas.List.{length-map}
 use Rattle.settings.specs.declared.Settings.{Settings}
 use Rattle.turn_lock.specs.declared.note.Note.{Note}
-use Rattle.history.specs.declared.past.Past.{Past}
-use Rattle.history.specs.Entries.{History, weight, newest, snap, IsAhead, IsKept, IsGone, oldest_kept}
+use Rattle.history.specs.Entries.{History, weight, newest, snap, IsKept, oldest_kept}
 use Rattle.commit_graph.specs.Linked.{weight_of}
 use Rattle.history.specs.Prefixes.{grows, graph}
 use Rattle.book_model.specs.State.{State}

@@ -1,6 +1,6 @@
 -- A build that is opened, and one that is published.
-use Rattle.std.proofs.Common.{◌≡◌, ℕ, zero, suc, ◌+◌, ◌-◌, ◌<◌, ◌≤◌, Bool, true, false, cond, List, [], ◌∷◌, ◌++◌, length, map, take, drop, get_or, ltb, ltb-true, ltb-false, refl, sym, ap, subst, ◌∙◌, append_assoc, arith, length-append}
-use Rattle.std.specs.Prelude.{Option, Some, None, Ok, Err, nat_lt, IsNone, IfSome}
+use Rattle.std.proofs.Common.{◌≡◌, ℕ, ◌+◌, ◌-◌, ◌<◌, ◌≤◌, Bool, true, false, cond, List, [], ◌∷◌, ◌++◌, length, map, take, drop, get_or, Global, ltb-true, ltb-false, refl, sym, ap, subst, ◌∙◌, append_assoc, arith, length-append}
+use Rattle.std.specs.Prelude.{Option, Some, None, Ok, nat_lt, IsNone, IfSome}
 use Rattle.std.specs.Arc.{arc_value}
 use Rattle.std.specs.declared.sync.Arc.{Arc}
 use Rattle.std.proofs.Math.Seq.{take-length}
@@ -19,7 +19,7 @@ use Rattle.history.specs.Prefixes.{grows, graph}
 use Rattle.history.specs.Conditions.{IsOfVersion}
 use Rattle.book_model.specs.declared.answers.Kept.{Kept}
 use Rattle.book_model.specs.declared.answers.Pulled.TheVariants as pulled
-use Rattle.book_model.specs.State.{Kind, Plan, Assemble, State, published, opened, with_entry, with_build}
+use Rattle.book_model.specs.State.{Plan, Assemble, OutTo, State, published, opened, moved, with_entry, with_build}
 use Rattle.book_model.specs.Jobs.{StandsIn, owner}
 use Rattle.book_model.specs.Steps.{HasRoom, IsFull, grown_by, GoesOut, Finds, FindsEach}
 use Rattle.book_model.specs.Sound.{IsSound}
@@ -29,15 +29,15 @@ use Rattle.snapshot.specs.declared.job.Job.{Job}
 use Rattle.impact_job.specs.declared.prefix.Prefix.{Prefix}
 use Rattle.impact_job.specs.Tables.{IsPrefixOf}
 use Rattle.snapshot.specs.Snapshots.{StandsFor}
-use Rattle.book.specs.Works.{work_of, name_of, is_work}
 use Rattle.snapshot.specs.Jobs.{name, IsJob, only}
 use Rattle.book.specs.declared.entry.Entry.{Entry}
 use Rattle.book.specs.declared.build.Open.{Open}
-use Rattle.book.specs.declared.build.Stage.{Stage}
+use Rattle.book.specs.declared.build.Stage.TheVariants as stages
 use Rattle.book.specs.declared.ledger.Counts.{Counts}
 use Rattle.book.specs.Entries.{past, history_of, AreWhole}
 use Rattle.book.specs.declared.entry.Entry.TheVariants as entries
-use Rattle.book.specs.Builds.{phase_of, stage_work, build_with, build_of, IsUnderWay}
+use Rattle.book.specs.Builds.{build_of, IsUnderWay}
+use Rattle.book.specs.Handing.{IsJobOf}
 use Rattle.book.specs.Books.{state_of, values_of, trimmed, AreKept, IsBook}
 use Rattle.book.proofs.Handing.{opens}
 use Rattle.book.proofs.Keeping.{IsImport, import-is, grow-is, newest-publish, first_imports, kept-rest}
@@ -68,24 +68,28 @@ finds_step {S = S} st s ns i fs f lt h g =
 -- ---- a build that is opened
 
 module _ {settings : Settings} {h : History} {callers : ℕ} {note : Note} {counts : Counts} {kept : List Snapshot} where
-  pub opening : (by place : ℕ) (stage : Stage) (job : Job) → by < callers → published h < length (imports h) → place ≡ length h → work_of job ≡ stage_work (counts.newest + 1) stage → phase_of stage ≡ Plan
-      → is_work (stage_work (counts.newest + 1) stage) (snap h (newest h)) (imports h)
-      → ((b p : List Past) → is_work (stage_work (counts.newest + 1) stage) b p → (name_of (stage_work (counts.newest + 1) stage)).upto ≡ length p)
-      → IsBook settings h callers None note counts kept
-      → (GoesOut name IsJob by (state_of settings h callers None note) (opened (length (imports h))) job (state_of settings h callers (Some (record { upto = counts.imports; place = place; stage = stage; owner = Some by })) note))
-      × IsBook settings h callers (Some (record { upto = counts.imports; place = place; stage = stage; owner = Some by })) note counts kept
-  opening by place stage job lt more end work plan is upto b =
+  pub opening : (by place : ℕ) (prefix : Arc Prefix Global) (job : Job) → by < callers → published h < length (imports h) → place ≡ length h → IsJobOf (counts.newest + 1) (arc_value prefix).upto Plan 0 (IsPrefixOf (arc_value prefix)) job
+      → IsPrefixOf (arc_value prefix) (snap h (newest h)) (imports h) → IsBook settings h callers None note counts kept
+      → (GoesOut name IsJob by (state_of settings h callers None note) (opened (length (imports h))) job (state_of settings h callers (Some (record { upto = counts.imports; place = place; stage = stages.Plan prefix; owner = Some by })) note))
+      × IsBook settings h callers (Some (record { upto = counts.imports; place = place; stage = stages.Plan prefix; owner = Some by })) note counts kept
+  opening by place prefix job lt more end j is b =
       let old : State = state_of settings h callers None note in
-      let o : Open = record { upto = counts.imports; place = place; stage = stage; owner = Some by } in
-      let new : State = state_of settings h callers (Some (record { upto = counts.imports; place = place; stage = stage; owner = Some by })) note in
-      let way : IsUnderWay (counts.newest + 1) h counts.imports place stage =
-      subst (λ (k : ℕ). IsUnderWay (counts.newest + 1) h counts.imports k stage) (sym end) (opened-way settings h callers None note counts kept stage more is upto b) in
-      let goes : GoesOut name IsJob by (state_of settings h callers None note) (opened (length (imports h))) job (state_of settings h callers (Some (record { upto = counts.imports; place = place; stage = stage; owner = Some by })) note) =
-      opens by old new place (counts.newest + 1) stage job (ap (λ (n : ℕ). n + 1) b.newest_is) work plan
-      (subst (λ (u : ℕ). IsUnderWay (counts.newest + 1) h u place stage) b.imported way)
-      (ap (λ (u : ℕ). with_build (state_of settings h callers None note) (Some (build_with u stage (Some by)))) b.imported) in (
+      let new : State = state_of settings h callers (Some (record { upto = counts.imports; place = place; stage = stages.Plan prefix; owner = Some by })) note in
+      let stands : StandsIn (IsPrefixOf (arc_value prefix)) (counts.newest + 1) counts.imports h = opened-way settings h callers None note counts kept (arc_value prefix) more is b in
+      let upto : (arc_value prefix).upto ≡ length (imports h) = is.upto in
+      let way : IsUnderWay (counts.newest + 1) h counts.imports place (stages.Plan prefix) =
+      record {
+        holds = record { within = stands.within; stands = stands.stands };
+        named = upto ∙ sym b.imported;
+        within = omega (arith, end);
+        reached = ap (λ (k : ℕ). length (imports (take k h))) end ∙ ap (λ (x : History). length (imports x)) (take-length h) ∙ sym b.imported;
+      } in
+      let goes : GoesOut name IsJob by (state_of settings h callers None note) (opened (length (imports h))) job (state_of settings h callers (Some (record { upto = counts.imports; place = place; stage = stages.Plan prefix; owner = Some by })) note) =
+      opens (arc_value prefix) by (counts.newest + 1) old new job (ap (λ (n : ℕ). n + 1) b.newest_is) j upto
+      (subst (λ (u : ℕ). StandsIn (IsPrefixOf (arc_value prefix)) (counts.newest + 1) u h) b.imported stands)
+      (ap (λ (u : ℕ). with_build (state_of settings h callers None note) (Some (moved (opened u) 0 (OutTo by)))) b.imported) in (
         goes,
-        book-build settings h callers None (Some (record { upto = counts.imports; place = place; stage = stage; owner = Some by })) note counts kept
+        book-build settings h callers None (Some (record { upto = counts.imports; place = place; stage = stages.Plan prefix; owner = Some by })) note counts kept
             (pulls-sound name IsJob by (length (imports h)) old new (Ok (pulled.Job job)) lt (omega arith) b.sound (more, goes)) way b,
       )
 
@@ -145,41 +149,38 @@ prefix_way {counts = counts} es all x base is b whole st over =
     subst (λ (p : List Past). IsPrefixOf x p (imports (history_of es))) (sym before)
     (subst (λ (y : History). IsPrefixOf x (imports (history_of (take counts.after es))) (imports y)) (ap (λ (xs : List Entry). history_of (take counts.after es) ++ history_of xs) later ∙ both) made)
 
-open_step : (settings : Settings) (callers : ℕ) (note : Note) (counts : Counts) (kept : List Snapshot) (es : List Entry) (by place : ℕ) (stage : Stage) (job : Job)
-    → place ≡ length es → work_of job ≡ stage_work (counts.newest + 1) stage → phase_of stage ≡ Plan
-    → is_work (stage_work (counts.newest + 1) stage) (snap (history_of es) (newest (history_of es))) (imports (history_of es))
-    → ((b p : List Past) → is_work (stage_work (counts.newest + 1) stage) b p → (name_of (stage_work (counts.newest + 1) stage)).upto ≡ length p)
+open_step : (settings : Settings) (callers : ℕ) (note : Note) (counts : Counts) (kept : List Snapshot) (es : List Entry) (by place : ℕ) (prefix : Arc Prefix Global) (job : Job)
+    → place ≡ length es → IsJobOf (counts.newest + 1) (arc_value prefix).upto Plan 0 (IsPrefixOf (arc_value prefix)) job
+    → IsPrefixOf (arc_value prefix) (snap (history_of es) (newest (history_of es))) (imports (history_of es))
     → (build : Option Open) → IsBook settings (history_of es) callers build note counts kept → IsNone (build_of build) → by < callers → published (history_of es) < length (imports (history_of es))
-    → GoesOut name IsJob by (state_of settings (history_of es) callers build note) (opened (length (imports (history_of es)))) job (state_of settings (history_of es) callers (Some (record { upto = counts.imports; place = place; stage = stage; owner = Some by })) note)
-    × IsBook settings (history_of es) callers (Some (record { upto = counts.imports; place = place; stage = stage; owner = Some by })) note counts kept
-open_step settings callers note counts kept es by place stage job end work plan is upto None b none lt more =
-    opening by place stage job lt more (end ∙ sym (length-map es past)) work plan is upto b
-open_step settings callers note counts kept es by place stage job end work plan is upto (Some o) b none lt more = absurd cc
+    → GoesOut name IsJob by (state_of settings (history_of es) callers build note) (opened (length (imports (history_of es)))) job (state_of settings (history_of es) callers (Some (record { upto = counts.imports; place = place; stage = stages.Plan prefix; owner = Some by })) note)
+    × IsBook settings (history_of es) callers (Some (record { upto = counts.imports; place = place; stage = stages.Plan prefix; owner = Some by })) note counts kept
+open_step settings callers note counts kept es by place prefix job end j is None b none lt more =
+    opening by place prefix job lt more (end ∙ sym (length-map es past)) j is b
+open_step settings callers note counts kept es by place prefix job end j is (Some o) b none lt more = absurd cc
 
 module _ {settings : Settings} {callers : ℕ} {build : Option Open} {note : Note} {counts : Counts} (es : List Entry) where
-  pub open_book : {kept : List Snapshot} (s : State) (now : List Entry) (by place : ℕ) (stage : Stage) (job : Job) → state_of settings (history_of es) callers build note ≡ s → now ≡ es → place ≡ length now
-      → work_of job ≡ stage_work (counts.newest + 1) stage → phase_of stage ≡ Plan
-      → is_work (stage_work (counts.newest + 1) stage) (snap s.history (newest s.history)) (imports s.history)
-      → ((b p : List Past) → is_work (stage_work (counts.newest + 1) stage) b p → (name_of (stage_work (counts.newest + 1) stage)).upto ≡ length p)
+  pub open_book : {kept : List Snapshot} (s : State) (now : List Entry) (by place : ℕ) (prefix : Arc Prefix Global) (job : Job) → state_of settings (history_of es) callers build note ≡ s → now ≡ es → place ≡ length now
+      → IsJobOf (counts.newest + 1) (arc_value prefix).upto Plan 0 (IsPrefixOf (arc_value prefix)) job → IsPrefixOf (arc_value prefix) (snap s.history (newest s.history)) (imports s.history)
       → IsBook settings (history_of es) callers build note counts kept → IsNone s.build → by < s.callers → published s.history < length (imports s.history)
-      → GoesOut name IsJob by s (opened (length (imports s.history))) job (state_of settings (history_of now) callers (Some (record { upto = counts.imports; place = place; stage = stage; owner = Some by })) note)
-      × IsBook settings (history_of now) callers (Some (record { upto = counts.imports; place = place; stage = stage; owner = Some by })) note counts kept
-  open_book {kept = kept} s now by place stage job view same end work plan made upto b =
-      let is : is_work (stage_work (counts.newest + 1) stage) (snap (history_of es) (newest (history_of es))) (imports (history_of es)) =
-      subst (λ (x : State). is_work (stage_work (counts.newest + 1) stage) (snap x.history (newest x.history)) (imports x.history)) (sym view) made in
+      → GoesOut name IsJob by s (opened (length (imports s.history))) job (state_of settings (history_of now) callers (Some (record { upto = counts.imports; place = place; stage = stages.Plan prefix; owner = Some by })) note)
+      × IsBook settings (history_of now) callers (Some (record { upto = counts.imports; place = place; stage = stages.Plan prefix; owner = Some by })) note counts kept
+  open_book {kept = kept} s now by place prefix job view same end j made b =
+      let is : IsPrefixOf (arc_value prefix) (snap (history_of es) (newest (history_of es))) (imports (history_of es)) =
+      subst (λ (x : State). IsPrefixOf (arc_value prefix) (snap x.history (newest x.history)) (imports x.history)) (sym view) made in
       let at : (place ≡ length es) → IsNone (build_of build) → by < callers → published (history_of es) < length (imports (history_of es))
-      → GoesOut name IsJob by (state_of settings (history_of es) callers build note) (opened (length (imports (history_of es)))) job (state_of settings (history_of es) callers (Some (record { upto = counts.imports; place = place; stage = stage; owner = Some by })) note)
-      × IsBook settings (history_of es) callers (Some (record { upto = counts.imports; place = place; stage = stage; owner = Some by })) note counts kept =
-      (λ end' none lt more. open_step settings callers note counts kept es by place stage job end' work plan is upto build b none lt more) in
+      → GoesOut name IsJob by (state_of settings (history_of es) callers build note) (opened (length (imports (history_of es)))) job (state_of settings (history_of es) callers (Some (record { upto = counts.imports; place = place; stage = stages.Plan prefix; owner = Some by })) note)
+      × IsBook settings (history_of es) callers (Some (record { upto = counts.imports; place = place; stage = stages.Plan prefix; owner = Some by })) note counts kept =
+      (λ end' none lt more. open_step settings callers note counts kept es by place prefix job end' j is build b none lt more) in
       let seen : IsNone s.build → by < s.callers → published s.history < length (imports s.history)
-      → GoesOut name IsJob by s (opened (length (imports s.history))) job (state_of settings (history_of es) callers (Some (record { upto = counts.imports; place = place; stage = stage; owner = Some by })) note)
-      × IsBook settings (history_of es) callers (Some (record { upto = counts.imports; place = place; stage = stage; owner = Some by })) note counts kept =
+      → GoesOut name IsJob by s (opened (length (imports s.history))) job (state_of settings (history_of es) callers (Some (record { upto = counts.imports; place = place; stage = stages.Plan prefix; owner = Some by })) note)
+      × IsBook settings (history_of es) callers (Some (record { upto = counts.imports; place = place; stage = stages.Plan prefix; owner = Some by })) note counts kept =
       subst (λ (x : State). IsNone x.build → by < x.callers → published x.history < length (imports x.history)
-      → GoesOut name IsJob by x (opened (length (imports x.history))) job (state_of settings (history_of es) callers (Some (record { upto = counts.imports; place = place; stage = stage; owner = Some by })) note)
-      × IsBook settings (history_of es) callers (Some (record { upto = counts.imports; place = place; stage = stage; owner = Some by })) note counts kept) view (at (end ∙ ap (λ (xs : List Entry). length xs) same)) in
+      → GoesOut name IsJob by x (opened (length (imports x.history))) job (state_of settings (history_of es) callers (Some (record { upto = counts.imports; place = place; stage = stages.Plan prefix; owner = Some by })) note)
+      × IsBook settings (history_of es) callers (Some (record { upto = counts.imports; place = place; stage = stages.Plan prefix; owner = Some by })) note counts kept) view (at (end ∙ ap (λ (xs : List Entry). length xs) same)) in
       subst (λ (xs : List Entry). IsNone s.build → by < s.callers → published s.history < length (imports s.history)
-      → GoesOut name IsJob by s (opened (length (imports s.history))) job (state_of settings (history_of xs) callers (Some (record { upto = counts.imports; place = place; stage = stage; owner = Some by })) note)
-      × IsBook settings (history_of xs) callers (Some (record { upto = counts.imports; place = place; stage = stage; owner = Some by })) note counts kept) (sym same) seen
+      → GoesOut name IsJob by s (opened (length (imports s.history))) job (state_of settings (history_of xs) callers (Some (record { upto = counts.imports; place = place; stage = stages.Plan prefix; owner = Some by })) note)
+      × IsBook settings (history_of xs) callers (Some (record { upto = counts.imports; place = place; stage = stages.Plan prefix; owner = Some by })) note counts kept) (sym same) seen
 
   -- ---- an import
 

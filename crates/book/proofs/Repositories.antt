@@ -1,5 +1,5 @@
 -- What is kept of repositories.
-use Rattle.std.proofs.Common.{◌≡◌, ℕ, ◌+◌, ◌-◌, ◌<◌, ◌≤◌, Bool, true, false, cond, List, [], ◌∷◌, ◌++◌, length, fold, drop, refl, sym, ap, subst, ◌∙◌, arith}
+use Rattle.std.proofs.Common.{◌≡◌, ℕ, ◌+◌, ◌-◌, ◌≤◌, Bool, true, false, cond, List, [], ◌∷◌, ◌++◌, length, fold, drop, refl, sym, ap, subst, ◌∙◌, arith}
 use Rattle.std.specs.Prelude.{Option, Some, None}
 use Rattle.std.specs.Str.{bytes_eq}
 use Rattle.std.specs.Arc.{arc_value}
@@ -22,17 +22,15 @@ use Rattle.history.specs.Prefixes.{grown, grows, graph}
 use Rattle.history.specs.Conditions.{IsOfVersion}
 use Rattle.history.proofs.Prefixes.{grows-append, graph-grown}
 use Rattle.history.proofs.Conditions.{version-now}
-use Rattle.book_model.specs.State.{State}
 use Rattle.book_model.specs.Steps.{grown_by}
 use Rattle.snapshot.specs.declared.snapshot.Snapshot.{Snapshot}
 use Rattle.book.specs.declared.entry.Entry.{Entry}
-use Rattle.book.specs.declared.entry.Entry.TheVariants as entries
 use Rattle.book.specs.declared.build.Open.{Open}
 use Rattle.book.specs.declared.ledger.Counts.{Counts}
 use Rattle.book.specs.declared.repos.Repo.{Repo}
-use Rattle.book.specs.Entries.{past, history_of, IsWhole, AreWhole}
+use Rattle.book.specs.Entries.{history_of, IsWhole, AreWhole}
 use Rattle.book.specs.Repos.{IsRepo, AreRepos}
-use Rattle.book.specs.Books.{state_of, IsBook}
+use Rattle.book.specs.Books.{IsBook}
 use Rattle.book.proofs.Growing.{graph-weight, beyond-weight, grown-whole, whole-push}
 
 -- ---- what is found

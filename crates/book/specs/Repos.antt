@@ -1,8 +1,6 @@
 -- The repositories that a book keeps (our own).
-use Rattle.std.specs.Prelude.{◌≡◌, ℕ, ◌+◌, ◌-◌, List, length, Option, Some, None}
+use Rattle.std.specs.Prelude.{◌≡◌, ℕ, List, Option, Some, None}
 use Rattle.std.specs.Arc.{arc_value}
-use Rattle.osv_prim.specs.declared.oid.CommitRow.{CommitRow}
-use Rattle.commit_graph.specs.Linked.{weight_of}
 use Rattle.history.specs.Entries.{History}
 use Rattle.history.specs.Prefixes.{grows, graph}
 use Rattle.book.specs.declared.repos.Repo.{Repo}

@@ -1,37 +1,28 @@
-ghost use Rattle.std.specs.Prelude.{◌≡◌, ◌<◌, ◌++◌, ◌∷◌, [], ℕ, Some, IsTrue, ◌↔◌, vec_len, vec_capacity};
+ghost use Rattle.std.specs.Prelude.{◌≡◌, ◌<◌, ◌++◌, ◌∷◌, [], Some, IsTrue, ◌↔◌, map, slice_set, vec_len, vec_capacity};
 ghost use Rattle.std.specs.Arc.{arc_value};
-ghost use Rattle.book_model.specs.State.{is_kind, assembling, with_build, cells_in, noted};
+ghost use Rattle.book_model.specs.State.{Done, filled, with_build, cells_in, noted};
 ghost use Rattle.turn_lock.specs.declared.note.Noted.{Noted};
 ghost use Rattle.book_model.specs.State as kinds;
 ghost use Rattle.book_model.specs.Jobs.{owner, FinishedHolds, JobHolds, StandsIn};
-ghost use Rattle.book_model.specs.Steps.{Finishes, GivesBack, Publishes, freed};
+ghost use Rattle.book_model.specs.Steps.{Finishes, GivesBack, freed};
 ghost use Rattle.snapshot.specs.Snapshots.{StandsFor};
-ghost use Rattle.impact_job.specs.Tables.{IsPlanOf, plan_upto};
-ghost use Rattle.snapshot.specs.Jobs.{only, name, IsJob, outcome, IsDone};
-ghost use Rattle.book.specs.Builds.{kind_of, phase_of};
+ghost use Rattle.impact_job.specs.Tables.{plan_upto};
+ghost use Rattle.snapshot.specs.declared.job.Finished.TheVariants as done;
+ghost use Rattle.snapshot.specs.Jobs.{only, piece, name, cell_of, IsJob, outcome, IsDone};
+ghost use Rattle.book.specs.Builds.{name_of};
 ghost use Rattle.book.specs.Books.{trimmed};
 ghost use Rattle.book.specs.Handing.{PublishesAt};
 
-use crate::build::{Open, Phase, Stage};
+use crate::build::{Open, Part, stage_of, with_set};
 use crate::entry::Entry;
 use crate::ledger::{Book, Counts};
+use crate::pieces::Pieces;
 use book_desk::{Progress, Strange};
 use impact_job::Plan;
-use snapshot::{Finished, Job, Snapshot};
+use impact_set::ImpactSet;
+use snapshot::{Finished, Job, Place, Snapshot};
 use std::sync::Arc;
 use turn_lock::Noted;
-
-// The stage is at this kind of job.
-fn is_at(stage: &Stage, phase: Phase) -> bool
-    ensures { result ≡ is_kind (kind_of phase) (phase_of stage.now) }
-{
-    match (stage, phase) {
-        (Stage::Plan(_), Phase::Plan) => true,
-        (Stage::Plan(_), Phase::Assemble) => false,
-        (Stage::Assemble(_), Phase::Plan) => false,
-        (Stage::Assemble(_), Phase::Assemble) => true,
-    }
-}
 
 fn is_by(found: Option<u64>, by: u64) -> bool
     ensures { IsTrue result ↔ (found ≡ Some by) }
@@ -54,29 +45,45 @@ fn keep(kept: &mut Vec<Arc<Snapshot>>, snapshot: Arc<Snapshot>, most: usize)
     }
 }
 
+// The number of the build of a job, how many imports that is of, and which job of it this is.
+fn part_of(job: &Job) -> (u64, u64, Part)
+    ensures { name_of result.0 result.1 result.2 ≡ name job.now }
+{
+    match job {
+        Job::Plan { build, prefix } => (*build, prefix.upto(), Part::Plan),
+        Job::Piece {
+            build,
+            plan,
+            number,
+        } => (*build, plan.upto(), Part::Piece(*number)),
+        Job::Assemble { build, filled, .. } => (*build, filled.upto(), Part::Assemble),
+    }
+}
+
 impl Book {
     // The caller that has this job.
-    fn owner_of(&self, build: u64, upto: u64, phase: Phase) -> Option<u64>
-        ensures { result ≡ owner self.now (only build upto (kind_of phase)) }
+    fn owner_of(&self, build: u64, upto: u64, part: Part) -> Option<u64>
+        ensures { result ≡ owner self.now (name_of build upto part) }
     {
         match &self.build {
             None => None,
             Some(open) => {
-                let is_here = build == self.counts.newest + 1
-                    && upto == open.upto
-                    && is_at(&open.stage, phase);
-                if is_here { open.owner } else { None }
+                if build == self.counts.newest + 1 && upto == open.upto {
+                    open.owner_of(part)
+                } else {
+                    None
+                }
             }
         }
     }
 
-    // The plan of the build that is open was handed in: it is to be assembled.
-    fn planned(&mut self, by: u64, build: u64, upto: u64, plan: Arc<Plan>)
+    // The plan of the build that is open was handed in: its pieces are to be done.
+    fn planned(&mut self, by: u64, build: u64, upto: u64, plan: Arc<Plan>, places: Vec<Place>)
         requires given { by < self.old.callers }
         requires out { owner self.old (only build upto kinds.Plan) ≡ Some by }
         requires named { plan_upto (arc_value plan) ≡ upto }
-        requires holds { StandsIn (IsPlanOf (arc_value plan)) build upto self.old.history }
-        ensures { self.new ≡ with_build self.old (Some (assembling upto)) }
+        requires holds { FinishedHolds outcome IsDone (done.Plan build plan places) self.old.history }
+        ensures { self.new ≡ with_build self.old (Some (filled upto (map cell_of places.items))) }
     {
         let Some(open) = self.build.take() else {
             unreachable!()
@@ -84,7 +91,25 @@ impl Book {
         self.build = Some(Open {
             upto,
             place: open.place,
-            stage: Stage::Assemble(plan),
+            stage: stage_of(Pieces::new(plan, places)),
+            owner: None,
+        });
+    }
+
+    // A piece of the build that is open was handed in.
+    fn put(&mut self, by: u64, build: u64, upto: u64, number: u32, set: Arc<ImpactSet>)
+        requires given { by < self.old.callers }
+        requires out { owner self.old (piece build upto number) ≡ Some by }
+        requires holds { FinishedHolds outcome IsDone (done.Piece build upto number set) self.old.history }
+        ensures { self.new ≡ with_build self.old (Some (filled upto (slice_set (cells_in self.old.build) number Done))) }
+    {
+        let Some(open) = self.build.take() else {
+            unreachable!()
+        };
+        self.build = Some(Open {
+            upto: open.upto,
+            place: open.place,
+            stage: with_set(open.stage, by, number, set),
             owner: None,
         });
     }
@@ -133,18 +158,35 @@ impl Book {
         ensures { Finishes by (outcome finished) self.old result self.new }
     {
         match finished {
-            Finished::Plan { build, plan } => {
+            Finished::Plan {
+                build,
+                plan,
+                places,
+            } => {
                 let upto = plan.upto();
-                let found = self.owner_of(build, upto, Phase::Plan);
+                let found = self.owner_of(build, upto, Part::Plan);
                 if !is_by(found, by) {
                     return Err(self.strange(by, build, found));
                 }
-                self.planned(by, build, upto, plan);
+                self.planned(by, build, upto, plan, places);
+                Ok(Progress::Going)
+            }
+            Finished::Piece {
+                build,
+                upto,
+                number,
+                set,
+            } => {
+                let found = self.owner_of(build, upto, Part::Piece(number));
+                if !is_by(found, by) {
+                    return Err(self.strange(by, build, found));
+                }
+                self.put(by, build, upto, number, set);
                 Ok(Progress::Going)
             }
             Finished::Assemble { build, snapshot } => {
                 let upto = snapshot.upto();
-                let found = self.owner_of(build, upto, Phase::Assemble);
+                let found = self.owner_of(build, upto, Part::Assemble);
                 if !is_by(found, by) {
                     return Err(self.strange(by, build, found));
                 }
@@ -153,20 +195,16 @@ impl Book {
         }
     }
 
-    // The job of the build that is open is free again.
-    fn free(&mut self, by: u64, build: u64, upto: u64, phase: Phase)
-        requires { owner self.old (only build upto (kind_of phase)) ≡ Some by }
-        ensures { self.new ≡ with_build self.old (Some (freed (only build upto (kind_of phase)) (cells_in self.old.build))) }
+    // A job of the build that is open is free again.
+    fn free(&mut self, by: u64, build: u64, upto: u64, part: Part)
+        requires { owner self.old (name_of build upto part) ≡ Some by }
+        ensures { self.new ≡ with_build self.old (Some (freed (name_of build upto part) (cells_in self.old.build))) }
     {
-        let Some(open) = self.build.take() else {
+        let Some(mut open) = self.build.take() else {
             unreachable!()
         };
-        self.build = Some(Open {
-            upto: open.upto,
-            place: open.place,
-            stage: open.stage,
-            owner: None,
-        });
+        open.free(by, part);
+        self.build = Some(open);
     }
 
     /// Hands back a job that wasn't done.
@@ -175,15 +213,12 @@ impl Book {
         requires holds { JobHolds name IsJob job self.old.history }
         ensures { GivesBack by (name job) self.old result self.new }
     {
-        let (build, upto, phase) = match job {
-            Job::Plan { build, prefix } => (build, prefix.upto(), Phase::Plan),
-            Job::Assemble { build, plan } => (build, plan.upto(), Phase::Assemble),
-        };
-        let found = self.owner_of(build, upto, phase);
+        let (build, upto, part) = part_of(&job);
+        let found = self.owner_of(build, upto, part);
         if !is_by(found, by) {
             return Err(self.strange(by, build, found));
         }
-        self.free(by, build, upto, phase);
+        self.free(by, build, upto, part);
         Ok(())
     }
 }

@@ -1,5 +1,6 @@
 ghost use Rattle.std.specs.Prelude.{◌≡◌, ◌<◌, ◌≤◌, ℕ, length, IfOk, IsNone};
 ghost use Rattle.std.specs.Arc.{arc_value};
+ghost use Rattle.settings.specs.declared.TheConstants.{MAX_WEIGHT};
 ghost use Rattle.history.specs.declared.past.Past.TheVariants.{Import};
 ghost use Rattle.history.specs.Entries.{entry_weight, imports, newest, snap};
 ghost use Rattle.book_model.specs.State.{State, opening, noted, published, out_count, cells_in};
@@ -11,8 +12,9 @@ ghost use Rattle.book.specs.Entries.{history_of};
 ghost use Rattle.book.specs.Books.{SuitsBook};
 ghost use Rattle.book.specs.Handing.{HandsOut, Opens};
 
-use crate::build::{Open, Stage, job_of, prefix_over};
+use crate::build::{Open, Stage, plan_job};
 use crate::entry::Entry;
+use crate::prefix::prefix_over;
 use crate::repos::Repo;
 use book_desk::{CallersSpent, ImportFault, Pulled, Taken};
 use impact_job::Prefix;
@@ -121,6 +123,7 @@ impl Book {
     pub fn point(&self) -> u64
         ensures point { result ≡ length self.now.history }
         ensures sound { IsSound self.now }
+        ensures limit { self.now.settings.weight ≤ MAX_WEIGHT }
     {
         self.entries.len() as u64
     }
@@ -208,8 +211,8 @@ impl Book {
         ensures { result ≡ out_count (cells_in self.now.build) }
     {
         match &self.build {
-            Some(open) if open.owner.is_some() => 1,
-            _ => 0,
+            Some(open) => open.out(),
+            None => 0,
         }
     }
 
@@ -231,46 +234,31 @@ impl Book {
         ensures { Opens by self.old result self.new }
     {
         let prefix = self.prefix()?;
-        let stage = Stage::Plan(Arc::new(self.alloc, prefix)?);
-        let job = job_of(self.counts.newest + 1, &stage)?;
+        let shared = Arc::new(self.alloc, prefix)?;
+        let job = plan_job(self.counts.newest + 1, &shared)?;
         self.entries.reserve(1)?;
         let place = self.entries.len() as u64;
         self.build = Some(Open {
             upto: self.counts.imports,
             place,
-            stage,
+            stage: Stage::Plan(shared),
             owner: Some(by),
         });
         Ok(job)
     }
 
-    // Gives the job of the build that is open to the caller, where nobody has it.
+    // Gives the first free job of the build that is open to the caller, where one is free.
     fn hand_out(&mut self, by: u64) -> Result<Option<Job>, Memory>
         requires given { by < self.old.callers }
         ensures { HandsOut by self.old result self.new }
     {
-        let Some(open) = self.build.take() else {
+        let Some(mut open) = self.build.take() else {
             return Ok(None);
         };
-        if open.owner.is_some() {
-            self.build = Some(open);
-            return Ok(None);
-        }
-        match job_of(self.counts.newest + 1, &open.stage) {
-            Err(memory) => {
-                self.build = Some(open);
-                Err(memory)
-            }
-            Ok(job) => {
-                self.build = Some(Open {
-                    upto: open.upto,
-                    place: open.place,
-                    stage: open.stage,
-                    owner: Some(by),
-                });
-                Ok(Some(job))
-            }
-        }
+        let base = &self.kept[self.kept.len() - 1];
+        let handed = open.hand_out(self.alloc, base, self.counts.newest + 1, by);
+        self.build = Some(open);
+        handed
     }
 
     /// Asks for a snapshot of at least the first `goal` imports: its number where it is there; else a job

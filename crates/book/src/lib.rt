@@ -16,6 +16,8 @@ mod entry;
 mod finish;
 mod ledger;
 mod look;
+mod pieces;
+mod prefix;
 mod repos;
 mod stored;
 

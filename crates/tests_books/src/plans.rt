@@ -44,6 +44,7 @@ pub fn planned<D: Desk>(alloc: Global, desk: &mut D) -> Result<String, Memory> {
         Pulled::Job(job) => {
             let text = match &job {
                 Job::Plan { prefix, .. } => shown(alloc, prefix),
+                Job::Piece { .. } => Ok(String::from_str(alloc, "a piece")?),
                 Job::Assemble { .. } => Ok(String::from_str(alloc, "an assembly")?),
             };
             let _ = give_back_of(desk, job);

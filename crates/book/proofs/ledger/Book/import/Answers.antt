@@ -1,9 +1,9 @@
-use Rattle.std.proofs.Common.{◌≡◌, ℕ, ◌+◌, ◌<◌, ◌≤◌, List, [], ◌∷◌, ◌++◌, length, refl, ap, ◌∙◌, arith}
+use Rattle.std.proofs.Common.{◌≡◌, ◌+◌, ◌≤◌, List, length, refl, ap, ◌∙◌, arith}
 use Rattle.std.specs.Prelude.{vec_len, vec_capacity}
 use Rattle.std.specs.Arc.{arc_value}
 use Rattle.osv_record.specs.Advisories.{Advisory}
 use Rattle.history.specs.declared.past.Past.TheVariants.{Import}
-use Rattle.history.specs.Entries.{History, entry_weight}
+use Rattle.history.specs.Entries.{entry_weight}
 use Rattle.book.specs.declared.entry.Entry.{Entry}
 use Rattle.book.specs.declared.entry.Entry.TheVariants as entries
 use Rattle.book.specs.Entries.{history_of}

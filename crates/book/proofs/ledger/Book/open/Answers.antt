@@ -1,4 +1,4 @@
-use Rattle.std.proofs.Common.{◌≡◌, ℕ, ◌+◌, ◌≤◌, List, [], refl, sym, ap, subst, ◌∙◌, arith}
+use Rattle.std.proofs.Common.{◌+◌, ◌≤◌, List, [], refl, sym, ap, subst, ◌∙◌, arith}
 use Rattle.std.specs.Prelude.{vec_len, vec_capacity}
 use Rattle.std.specs.Arc.{arc_value}
 use Rattle.std.specs.HashMap.{get}
@@ -7,7 +7,6 @@ use Rattle.history.specs.Entries.{imports, newest, snap}
 use Rattle.impact_job.specs.declared.prefix.Prefix.{Prefix}
 use Rattle.impact_job.specs.Tables.{IsPrefixOf}
 use Rattle.book.specs.declared.entry.Entry.{Entry}
-use Rattle.book.specs.declared.build.Stage.TheVariants as stages
 use Rattle.book.specs.Entries.{history_of, AreWhole}
 use Rattle.book.proofs.Numbers.{next_small}
 use Rattle.book.proofs.Repositories.{repos-same}
@@ -19,10 +18,10 @@ overflow_add-self-inside c = let k = next_small c.self.invariant.0 in omega (ari
 
 pub invariant_of-self-2 : goal.invariant_of-self-2
 invariant_of-self-2 c =
-    let made : IsPrefixOf (arc_value c.in_ok-new.field-0) (snap c.args.self.now.history (newest c.args.self.now.history)) (imports c.args.self.now.history) =
-    subst (λ (x : Prefix). IsPrefixOf x (snap c.args.self.now.history (newest c.args.self.now.history)) (imports c.args.self.now.history)) (sym c.in_ok-new.ensures.ok) c.in_ok-prefix.ensures in
-    let r = open_book c.self.inside.entries.items c.args.self.now c.reserve.new.self.items c.args.by c.len-place.result (stages.Plan c.in_ok-new.field-0) c.in_ok-job.job c.self.view_is c.reserve.ensures.items
-    (c.len-place.ensures ∙ c.reserve.new.self.ok.0) c.in_ok-job.ensures refl made (λ b p w. w.upto) c.self.invariant.0 c.requires.none c.requires.given c.requires.more in (
+    let made : IsPrefixOf (arc_value c.in_ok-shared.shared) (snap c.args.self.now.history (newest c.args.self.now.history)) (imports c.args.self.now.history) =
+    subst (λ (x : Prefix). IsPrefixOf x (snap c.args.self.now.history (newest c.args.self.now.history)) (imports c.args.self.now.history)) (sym c.in_ok-shared.ensures.ok) c.in_ok-prefix.ensures in
+    let r = open_book c.self.inside.entries.items c.args.self.now c.reserve.new.self.items c.args.by c.len-place.result c.in_ok-shared.shared c.in_ok-job.job c.self.view_is c.reserve.ensures.items
+    (c.len-place.ensures ∙ c.reserve.new.self.ok.0) c.in_ok-job.ensures made c.self.invariant.0 c.requires.none c.requires.given c.requires.more in (
       r.1,
       c.self.invariant.1,
       (let k : vec_len c.reserve.new.self + 1 ≤ vec_capacity c.reserve.new.self = c.in_ok-reserve.ensures.ok in omega (arith, k)),
@@ -32,8 +31,8 @@ invariant_of-self-2 c =
 
 pub returns : goal.returns
 returns c =
-    let made : IsPrefixOf (arc_value c.in_ok-new.field-0) (snap c.args.self.now.history (newest c.args.self.now.history)) (imports c.args.self.now.history) =
-    subst (λ (x : Prefix). IsPrefixOf x (snap c.args.self.now.history (newest c.args.self.now.history)) (imports c.args.self.now.history)) (sym c.in_ok-new.ensures.ok) c.in_ok-prefix.ensures in
-    let r = open_book c.self.inside.entries.items c.args.self.now c.reserve.new.self.items c.args.by c.len-place.result (stages.Plan c.in_ok-new.field-0) c.in_ok-job.job c.self.view_is c.reserve.ensures.items
-    (c.len-place.ensures ∙ c.reserve.new.self.ok.0) c.in_ok-job.ensures refl made (λ b p w. w.upto) c.self.invariant.0 c.requires.none c.requires.given c.requires.more in
+    let made : IsPrefixOf (arc_value c.in_ok-shared.shared) (snap c.args.self.now.history (newest c.args.self.now.history)) (imports c.args.self.now.history) =
+    subst (λ (x : Prefix). IsPrefixOf x (snap c.args.self.now.history (newest c.args.self.now.history)) (imports c.args.self.now.history)) (sym c.in_ok-shared.ensures.ok) c.in_ok-prefix.ensures in
+    let r = open_book c.self.inside.entries.items c.args.self.now c.reserve.new.self.items c.args.by c.len-place.result c.in_ok-shared.shared c.in_ok-job.job c.self.view_is c.reserve.ensures.items
+    (c.len-place.ensures ∙ c.reserve.new.self.ok.0) c.in_ok-job.ensures made c.self.invariant.0 c.requires.none c.requires.given c.requires.more in
     r.0

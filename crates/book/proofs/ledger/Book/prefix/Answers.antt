@@ -1,4 +1,4 @@
-use Rattle.std.proofs.Common.{◌≡◌, ℕ, ◌+◌, ◌-◌, length, refl, subst, ◌∙◌, arith}
+use Rattle.std.proofs.Common.{◌≡◌, ◌-◌, length, refl, subst, arith}
 use Rattle.std.specs.Arc.{arc_value}
 use Rattle.history.specs.Entries.{imports, newest, snap}
 use Rattle.snapshot.specs.declared.snapshot.Snapshot.{Snapshot}

@@ -1,11 +1,11 @@
-use Rattle.std.proofs.Common.{◌≡◌, List, [], ◌∷◌, ◌++◌, take, sym, ap, subst, ◌∙◌}
+use Rattle.std.proofs.Common.{[], ◌∷◌, ◌++◌, take, sym, ap, subst, ◌∙◌}
 use Rattle.history.specs.Entries.{History, imports}
 use Rattle.impact_job.specs.Tables.{IsPrefixOf}
 use Rattle.book.specs.declared.entry.Entry.{Entry}
 use Rattle.book.specs.Entries.{past, history_of, IsWhole}
 use Rattle.book.proofs.Growing.{whole-at}
 use Rattle.book.proofs.Opening.{later_step}
-use Rattle.book.proofs.build.prefix_over.Goals as goal
+use Rattle.book.proofs.prefix.prefix_over.Goals as goal
 
 pub loop-entry-preserved : goal.loop-entry-preserved
 loop-entry-preserved c = λ h st w.

@@ -2,7 +2,6 @@ use Rattle.std.proofs.Common.{◌≡◌, ℕ, List, [], ◌∷◌, ◌++◌, dro
 use Rattle.std.specs.Prelude.{Result, Ok, Err, OnOk}
 use Rattle.std.specs.Arc.{arc_value}
 use Rattle.std.proofs.lemmas.List.{append-nil}
-use Rattle.osv_prim.specs.declared.oid.CommitRow.{CommitRow}
 use Rattle.osv_record.specs.Advisories.{Advisory}
 use Rattle.history.specs.declared.past.Past.{Past}
 use Rattle.history.specs.declared.past.Past.TheVariants.{Import, Grow}
@@ -13,7 +12,7 @@ use Rattle.impact_job.specs.Tables.{IsPrefixOf}
 use Rattle.book.specs.declared.entry.Entry.{Entry}
 use Rattle.book.specs.Entries.{past, IsWhole}
 use Rattle.book.proofs.Growing.{graph-of_imports}
-use Rattle.book.proofs.build.add.Goals as goal
+use Rattle.book.proofs.prefix.add.Goals as goal
 
 -- what each pair gives where the call was answered
 all_ok : {A E : Type 0} (r : Result A E) (P Q N : List Past → History → Type 0) → ((b : List Past) (h : History) → P b h → Q b h → OnOk r (N b h)) → OnOk r ((b : List Past) (h : History) → P b h → Q b h → N b h)
