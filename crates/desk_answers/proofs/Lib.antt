@@ -1,3 +1,4 @@
 pub mod Importing
 pub mod Joining
 pub mod Showing
+pub mod Streams

@@ -2,3 +2,4 @@ pub mod Gives
 pub mod Shown
 pub mod Batches
 pub mod Joining
+pub mod Streams

@@ -1,7 +1,7 @@
 //! What a request is answered, over any desk.
 //!
 //! ```
-//! let answered = answer(alloc, &mut desk, &OpenGate, request, closes, &settings, steps)?;
+//! let answered = answer(alloc, &mut desk, &OpenGate, request, None, closes, &settings, buffers, steps)?;
 //! write_reply(&mut sink, &answered.reply)?;
 //! ```
 #![tactic(auto)]
@@ -19,3 +19,4 @@ mod request;
 
 pub use answering::answer;
 pub use reply::Answered;
+pub use request::is_streamed;

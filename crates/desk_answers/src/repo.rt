@@ -1,10 +1,11 @@
-ghost use Rattle.std.specs.Prelude.{◌≡◌, ◌≢◌, ◌≤◌, ◌+◌, [], Ok, Err, IfOk, IfErr, length, vec_len, vec_capacity};
+ghost use Rattle.std.specs.Prelude.{◌≡◌, ◌≤◌, ◌+◌, [], ℕ, List, length, vec_len, vec_capacity};
 ghost use Rattle.history.specs.Conditions.{IsOfVersion};
+ghost use Rattle.http_wire.specs.Requests.{with_bytes};
 ghost use Rattle.reply_json.specs.Bodies.{commits_body};
-ghost use Rattle.session_model.specs.Answers.{commits_in};
 ghost use Rattle.session_model.specs.declared.route.Route.TheVariants as routes;
 ghost use Rattle.desk_answers.specs.Gives.{GivesAt};
 ghost use Rattle.desk_answers.specs.Joining.{GrowsAs, JoinsAs};
+ghost use Rattle.stream_body.specs.Streams.{Comes};
 
 use crate::put::put;
 use crate::reply::{Answered, done, refused};
@@ -12,26 +13,28 @@ use crate::request::key_of;
 use book_desk::{Desk, GrowFault};
 use commit_graph::{Graph, GraphFault};
 use desk_calls::{grow_of, repo_of};
-use fast_export::{Reader, StreamFault};
+use fast_export::StreamFault;
 use http_wire::Request;
 use itoa::Buffer;
-use osv_prim::{CommitRow, Ledger, List, Memory, RepoKey, Steps};
+use osv_prim::{CommitRow, Ledger, Memory, RepoKey, Steps};
 use reply_json::Refusal;
 use session_model::Sign;
 use std::alloc::Global;
 use std::sync::Arc;
+use stream_body::Commits;
 
-/// Joins the commits that a body is to the repository that the query names, which may have `most` then.
+/// Joins the commits of a body to the repository that the query names, which may have `most` then.
 pub(crate) fn repo<D: Desk, L: Ledger>(
     alloc: Global,
     desk: &mut D,
     request: &Request,
+    come: Commits,
     closes: bool,
     most: u32,
     steps: &mut Steps<L>,
 ) -> Result<Answered, Memory>
     requires { most ≡ (D.caller desk.old).settings.commits }
-    ensures { GivesAt (D.caller desk.old) (D.caller desk.new) closes request.now routes.Repo result }
+    ensures { (body : List ℕ) → Comes most body come → GivesAt (D.caller desk.old) (D.caller desk.new) closes (with_bytes request.now body) routes.Repo result }
 {
     let _known = desk.point();
     let Ok(named) = key_of(alloc, request.query.as_slice()) else {
@@ -40,21 +43,11 @@ pub(crate) fn repo<D: Desk, L: Ledger>(
     let Some(key) = named else {
         return refused(alloc, Sign::Plain, closes, &Refusal::RepoMissing);
     };
-    match commits_in(alloc, request.body.as_slice(), most) {
+    match come {
         Ok(rows) => join(alloc, desk, key, rows.as_slice(), closes, most, steps),
         Err(StreamFault::Memory) => Err(Memory),
         Err(fault) => refused(alloc, Sign::Plain, closes, &Refusal::BadStream(fault)),
     }
-}
-
-// The commits of a stream, of which at most so many may come.
-fn commits_in(alloc: Global, text: &[u8], most: u32) -> Result<List<CommitRow>, StreamFault>
-    ensures ok { IfOk result (λ rows. commits_in most text.now ≡ Ok rows) }
-    ensures err { IfErr result (λ e. e ≢ StreamFault.Memory → commits_in most text.now ≡ Err e) }
-{
-    let mut reader = Reader::new(alloc, most)?;
-    reader.feed(text)?;
-    reader.finish()
 }
 
 // Joins commits to the graph of a repository, outside the desk's calls, and enters what it lacked.

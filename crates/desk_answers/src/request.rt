@@ -1,10 +1,11 @@
-ghost use Rattle.std.specs.Prelude.{◌≡◌, IfOk, length, drop, option_map, codes};
+ghost use Rattle.std.specs.Prelude.{◌≡◌, true, IfOk, length, drop, option_map, codes};
 ghost use Rattle.std.specs.Cow.{cow_str_bytes};
 ghost use Rattle.std.specs.Str.{bytes_eq};
 ghost use Rattle.form_urlencoded.specs.Form.{raw_pairs};
 ghost use Rattle.http_wire.specs.Replies.{method_of};
 ghost use Rattle.session_model.specs.Routes.{begins, by_method, form_text, id_of, key_of, route_of, url_in, vulns};
 ghost use Rattle.session_model.specs.Looks.{least_of};
+ghost use Rattle.desk_answers.specs.Streams.{IsStreamed};
 
 use form_urlencoded::{decode, raw_pairs};
 use http_wire::{Allow, Request};
@@ -40,6 +41,14 @@ pub(crate) fn route_of(request: &Request) -> Route
         return by_method(method, Allow::Get, Route::Vulns);
     }
     Route::NoPath
+}
+
+/// Whether nothing but the commits of a request's body is wanted, so that it need not be kept: it leads to the
+/// repositories, or its path is asked by another method.
+pub fn is_streamed(request: &Request) -> bool
+    ensures { result ≡ true → IsStreamed (route_of request.now) }
+{
+    matches!(route_of(request), Route::Repo | Route::WrongMethod(_))
 }
 
 fn begins(word: &[u8], text: &[u8]) -> bool

@@ -1,10 +1,12 @@
 -- One request, and one turn of a session.
 use Rattle.std.proofs.Common.{◌≡◌, inl, inr, ℕ, ◌≤◌, Bool, true, false, ◌||◌, List, [], ◌∷◌, ◌++◌, length, Option, Some, None, Ok, Err, refl, sym, ap, subst, ◌∙◌}
-use Rattle.std.specs.Prelude.{nat_le}
+use Rattle.std.specs.Prelude.{nat_le, Result}
 use Rattle.std.specs.Io.KnownBytes.{Appends, prepend_known}
 use Rattle.std.proofs.lemmas.List.{append-nil}
 use Rattle.settings.specs.declared.Settings.{Settings}
 use Rattle.osv_prim.specs.declared.memory.Memory.{Memory}
+use Rattle.osv_prim.specs.declared.oid.CommitRow.{CommitRow}
+use Rattle.fast_export.specs.declared.fault.StreamFault.{StreamFault}
 use Rattle.history.specs.Legality.{IsLegal}
 use Rattle.book_model.specs.Desk.{Caller}
 use Rattle.http_wire.specs.declared.fault.WireFault.{WireFault}
@@ -25,6 +27,7 @@ use Rattle.session_model.proofs.Apart.{unanswered-none}
 use Rattle.session_model.proofs.Sessions.{none-yet, turn-ends}
 use Rattle.desk_answers.specs.declared.reply.Answered as given
 use Rattle.desk_answers.specs.Gives.{Gives}
+use Rattle.desk_answers.specs.Streams.{IsRead}
 use Rattle.http_session.specs.Serving.{Fate, Answered, Unanswered, FateFits, Serves, Fails, IsSomeFault, RefusesBy, RefusesSo, came_of, fate_text, fate_points, fate_signs}
 
 -- ---- what came of a request
@@ -64,6 +67,11 @@ answered last old new q a out out_now end point points points_now signs signs_no
   points_are = p;
   signs_are = s;
 }
+
+-- a request asks for close with its body and without
+pub same-close : (most : ℕ) (r q : Request) (come : Option (Result (List CommitRow) StreamFault)) → IsRead most r come q → q.close ≡ r.close
+same-close most r q None h = ap (λ (x : Request). x.close) h
+same-close most r q (Some come) h = ap (λ (x : Request). x.close) h.1
 
 -- the settings stay
 pub serves-settings : (last : Bool) (old new : Caller) (q : Request) (out : Option (List ℕ)) (end : Option End) (out_now : Option (List ℕ)) (points points_now : List ℕ) (signs signs_now : List Sign)
@@ -175,7 +183,7 @@ failed-first s last c None out rest left out_now points signs end f = untold_fai
 failed-first s last c (Some text) out rest left out_now points signs end f = behind_failure s last c text out out rest left out_now points signs false end (adds-nothing out out refl) f
 
 refused_by : (s : Settings) (last : Bool) (c : Caller) (text out mid rest left out_now : Option (List ℕ)) (points : List ℕ) (signs : List Sign) (fault : WireFault) (held : List ℕ) (end : End)
-    → RequestTells (room_of s) text out (got.Refused fault) held left mid → RefusesBy fault end → Writes mid (spelled (wire_reply s.body fault)) (Some end) out_now
+    → RequestTells (room_of s) text out (got.Refused fault) held left mid → RefusesBy fault end → Writes mid (spelled (wire_reply fault)) (Some end) out_now
     → Turn s last c c text out (Some end) rest left out_now points points signs signs
 refused_by s last c text out mid rest left out_now points signs fault held ends.Ended h r w = absurd r
 refused_by s last c text out mid rest left out_now points signs fault held ends.Asked h r w = absurd r
@@ -183,7 +191,7 @@ refused_by s last c text out mid rest left out_now points signs fault held ends.
 refused_by s last c None out mid rest left out_now points signs fault held (ends.Refused e) h r w = stopped-turn s last c None out (ends.Refused e) rest left out_now points signs tt tt
 refused_by s last c (Some text) out mid rest left out_now points signs fault held (ends.Refused e) h r w =
     stopped-turn s last c (Some text) out (ends.Refused e) rest left out_now points signs tt
-    (h.0, subst (λ (x : WireFault). Next (room_of s) text (Refused x h.0)) (sym r) h.1, (mid, h.2, subst (λ (x : WireFault). Appends mid out_now (spelled (wire_reply s.body x))) (sym r) w))
+    (h.0, subst (λ (x : WireFault). Next (room_of s) text (Refused x h.0)) (sym r) h.1, (mid, h.2, subst (λ (x : WireFault). Appends mid out_now (spelled (wire_reply x))) (sym r) w))
 refused_by s last c text out mid rest left out_now points signs fault held ends.Truncated h r w = absurd r
 refused_by s last c text out mid rest left out_now points signs fault held ends.ReadFault h r w = absurd r
 refused_by s last c None out mid rest left out_now points signs fault held (ends.WriteFault n) h r w = stopped-turn s last c None out (ends.WriteFault n) rest left out_now points signs tt tt
@@ -192,7 +200,7 @@ refused_by s last c (Some text) out mid rest left out_now points signs fault hel
 refused_by s last c text out mid rest left out_now points signs fault held ends.Memory h r w = absurd r
 
 pub refused-turn : (s : Settings) (last : Bool) (c : Caller) (text out mid rest left out_now : Option (List ℕ)) (points : List ℕ) (signs : List Sign) (fault : WireFault) (held : List ℕ) (end : End)
-    → RequestTells (room_of s) text out (got.Refused fault) held left mid → RefusesSo s.body fault mid end out_now
+    → RequestTells (room_of s) text out (got.Refused fault) held left mid → RefusesSo fault mid end out_now
     → Turn s last c c text out (Some end) rest left out_now points points signs signs
 refused-turn s last c text out mid rest left out_now points signs fault held end h (inl r) = refused_by s last c text out mid rest left out_now points signs fault held end h r.0 r.1
 refused-turn s last c None out mid rest left out_now points signs fault held end h (inr f) = untold_failure s last c out mid rest left out_now points signs end f

@@ -64,9 +64,9 @@ RefusesBy fault (ends.WriteFault n) = Unit {0}
 RefusesBy fault ends.Memory = ⊥
 
 -- or there was no memory for it
-abbrev pub RefusesSo : ℕ → WireFault → Option (List ℕ) → End → Option (List ℕ) → Type 0
-RefusesSo limit fault out end out_now =
-    (RefusesBy fault end × Writes out (spelled (wire_reply limit fault)) (Some end) out_now) ⊎ Fails out end out_now
+abbrev pub RefusesSo : WireFault → Option (List ℕ) → End → Option (List ℕ) → Type 0
+RefusesSo fault out end out_now =
+    (RefusesBy fault end × Writes out (spelled (wire_reply fault)) (Some end) out_now) ⊎ Fails out end out_now
 
 -- the sink failed
 abbrev pub IsSomeFault : Option End → Type 0

@@ -6,6 +6,7 @@
 //! ```
 #![tactic(auto)]
 
+mod asked;
 mod marks;
 mod refusal;
 mod serve;

@@ -7,13 +7,13 @@ use osv_prim::{Bytes, Memory};
 use reply_json::body_of;
 use std::alloc::{AllocError, Global};
 
-/// The reply to a request that can't be read, where bodies have at most `limit` bytes.
+/// The reply to a request that can't be read.
 #[tactic(auto, unfolding(session_model::specs::Replies::wire_reply, session_model::specs::Replies::wire_body))]
-pub(crate) fn refusal_of(alloc: Global, fault: WireFault, limit: u64) -> Result<Reply, Memory>
-    ensures reply { IfOk result (λ r. r ≡ wire_reply limit fault) }
+pub(crate) fn refusal_of(alloc: Global, fault: WireFault) -> Result<Reply, Memory>
+    ensures reply { IfOk result (λ r. r ≡ wire_reply fault) }
     ensures phrase { IfOk result (λ r. HasPhrase r.status) }
 {
-    let message = message_of(alloc, fault, limit)?;
+    let message = message_of(alloc, fault)?;
     let body = body_of(alloc, fault.code(), message.as_str())?;
     Ok(Reply {
         body: Bytes::from_vec(body),
@@ -24,8 +24,8 @@ pub(crate) fn refusal_of(alloc: Global, fault: WireFault, limit: u64) -> Result<
     })
 }
 
-fn message_of(alloc: Global, fault: WireFault, limit: u64) -> Result<String, AllocError>
-    ensures { IfOk result (λ t. string_bytes t ≡ wire_message limit fault) }
+fn message_of(alloc: Global, fault: WireFault) -> Result<String, AllocError>
+    ensures { IfOk result (λ t. string_bytes t ≡ wire_message fault) }
 {
     match fault {
         WireFault::BadHead => String::from_str(alloc, "bad request head"),
@@ -34,7 +34,7 @@ fn message_of(alloc: Global, fault: WireFault, limit: u64) -> Result<String, All
             String::from_str(alloc, "content-length with transfer-encoding")
         }
         WireFault::BadChunk => String::from_str(alloc, "bad chunk"),
-        WireFault::BodyTooLarge => format!(in alloc; "body larger than {limit}"),
+        WireFault::BodyTooLarge { limit } => format!(in alloc; "body larger than {limit}"),
         WireFault::ContentCoding => String::from_str(alloc, "content-encoding not supported"),
         WireFault::HeadTooLong => String::from_str(alloc, "request head too long"),
         WireFault::TransferCoding => String::from_str(alloc, "transfer-encoding not supported"),
@@ -48,7 +48,7 @@ fn status_of(fault: WireFault) -> u16
     match fault {
         WireFault::BadHead | WireFault::BadLength | WireFault::BothLengths | WireFault::BadChunk =>
             400,
-        WireFault::BodyTooLarge => 413,
+        WireFault::BodyTooLarge { .. } => 413,
         WireFault::ContentCoding => 415,
         WireFault::HeadTooLong => 431,
         WireFault::TransferCoding => 501,

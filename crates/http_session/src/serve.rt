@@ -1,6 +1,8 @@
 ghost use Rattle.std.specs.Prelude.{◌≡◌, ◌≤◌, false};
+ghost use Rattle.desk_answers.specs.Streams.{IsRead};
 ghost use Rattle.edge_io.specs.Causes.{Rose};
 ghost use Rattle.http_wire.specs.Replies.{HasPhrase, spelled};
+ghost use Rattle.http_wire.specs.declared.request.Request.{Request};
 ghost use Rattle.session_model.specs.Ends.{GoesOn, Writes};
 ghost use Rattle.session_model.specs.Sessions.{IsWriteFault};
 ghost use Rattle.http_session.specs.Serving.{Fails, IsSomeFault, Serves};
@@ -10,12 +12,13 @@ use book_desk::Desk;
 use desk_answers::answer;
 use edge_io::Sink;
 use gate::Gate;
-use http_wire::{Reply, Request, write_memory, write_reply};
+use http_wire::{Out, Reply, Request, write_memory, write_reply};
 use osv_prim::{Ledger, Steps};
 use osv_record::Buffers;
 use session_model::End;
 use settings::Settings;
 use std::alloc::Global;
+use stream_body::Commits;
 
 /// Answers a request that was read, and marks its point; None: another may follow. The room for the point is
 /// taken before the book is asked, so a request that changed the book has its point.
@@ -24,15 +27,18 @@ pub(crate) fn serve<D: Desk, G: Gate, K: Sink, L: Ledger>(
     desk: &mut D,
     gate: &G,
     sink: &mut K,
+    out: &mut Out,
     request: Request,
+    come: Option<Commits>,
     settings: &Settings,
     last: bool,
     marks: &mut Marks,
     buffers: &mut Buffers,
     steps: &mut Steps<L>,
 ) -> Option<End>
-    requires { (D.caller desk.old).settings ≡ settings.now }
-    ensures serves { Serves last (D.caller desk.old) (D.caller desk.new) request (K.held sink.old) result (K.held sink.new) marks.old.points.items marks.new.points.items marks.old.signs.items marks.new.signs.items }
+    requires same { (D.caller desk.old).settings ≡ settings.now }
+    requires read { (q : Request) × IsRead settings.now.commits request come q }
+    ensures serves { (q : Request) → IsRead settings.now.commits request come q → Serves last (D.caller desk.old) (D.caller desk.new) q (K.held sink.old) result (K.held sink.new) marks.old.points.items marks.new.points.items marks.old.signs.items marks.new.signs.items }
     ensures same { (D.caller desk.new).settings ≡ settings.now }
     ensures more { result ≡ None → last ≡ false }
     ensures later { K.faults sink.old ≤ K.faults sink.new }
@@ -48,6 +54,7 @@ pub(crate) fn serve<D: Desk, G: Gate, K: Sink, L: Ledger>(
         desk,
         gate,
         request,
+        come,
         close || last,
         settings,
         buffers,
@@ -55,14 +62,14 @@ pub(crate) fn serve<D: Desk, G: Gate, K: Sink, L: Ledger>(
     ) {
         Ok(answered) => {
             mark(marks, desk.point(), answered.sign);
-            send(sink, &answered.reply, close, last)
+            send(sink, out, &answered.reply, close, last)
         }
         Err(_) => Some(fail(sink)),
     }
 }
 
 // Writes the reply to a request that asks for close or not.
-fn send<K: Sink>(sink: &mut K, reply: &Reply, close: bool, last: bool) -> Option<End>
+fn send<K: Sink>(sink: &mut K, out: &mut Out, reply: &Reply, close: bool, last: bool) -> Option<End>
     requires { HasPhrase reply.now.status }
     ensures goes { GoesOn close last result }
     ensures writes { Writes (K.held sink.old) (spelled reply.now) result (K.held sink.new) }
@@ -70,7 +77,7 @@ fn send<K: Sink>(sink: &mut K, reply: &Reply, close: bool, last: bool) -> Option
     ensures later { K.faults sink.old ≤ K.faults sink.new }
     ensures fault { IsSomeFault result → Rose (K.faults sink.old) (K.faults sink.new) }
 {
-    match write_reply(sink, reply) {
+    match write_reply(sink, out, reply) {
         Ok(()) => behind(close, last),
         Err(fault) => Some(End::WriteFault { out: fault.out }),
     }

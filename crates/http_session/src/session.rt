@@ -1,4 +1,4 @@
-ghost use Rattle.std.specs.Prelude.{◌≡◌, ◌≤◌, [], Some};
+ghost use Rattle.std.specs.Prelude.{◌≡◌, ◌≤◌, [], Some, IfOk};
 ghost use Rattle.edge_io.specs.Causes.{Rose};
 ghost use Rattle.session_model.specs.Sessions.{IsWriteFault, Session};
 ghost use Rattle.session_model.specs.declared.end.End.TheVariants.{ReadFault};
@@ -9,8 +9,8 @@ use crate::turn::turn;
 use book_desk::Desk;
 use edge_io::{Sink, Source};
 use gate::Gate;
-use http_wire::Held;
-use osv_prim::{Ledger, Steps};
+use http_wire::{Held, Out};
+use osv_prim::{Ledger, Memory, Steps};
 use osv_record::Buffers;
 use session_model::{End, SessionEnd};
 use settings::Settings;
@@ -75,8 +75,8 @@ fn serve_from<D: Desk, G: Gate, S: Source, K: Sink, L: Ledger>(
     ensures read_fault { result ≡ ReadFault → Rose (S.faults source.old) (S.faults source.new) }
     ensures write_fault { IsWriteFault result → Rose (K.faults sink.old) (K.faults sink.new) }
 {
-    match Held::new(alloc) {
-        Ok(mut held) => {
+    match room(alloc) {
+        Ok((mut held, mut out)) => {
             serve_all(
                 alloc,
                 desk,
@@ -84,6 +84,7 @@ fn serve_from<D: Desk, G: Gate, S: Source, K: Sink, L: Ledger>(
                 source,
                 sink,
                 &mut held,
+                &mut out,
                 settings,
                 marks,
                 &mut Buffers::new(alloc),
@@ -94,6 +95,15 @@ fn serve_from<D: Desk, G: Gate, S: Source, K: Sink, L: Ledger>(
     }
 }
 
+// What is read ahead, which is nothing yet, and room for replies.
+fn room(alloc: Global) -> Result<(Held, Out), Memory>
+    ensures { IfOk result (λ r. r.0 ≡ []) }
+{
+    let held = Held::new(alloc)?;
+    let out = Out::new(alloc)?;
+    Ok((held, out))
+}
+
 fn serve_all<D: Desk, G: Gate, S: Source, K: Sink, L: Ledger>(
     alloc: Global,
     desk: &mut D,
@@ -101,6 +111,7 @@ fn serve_all<D: Desk, G: Gate, S: Source, K: Sink, L: Ledger>(
     source: &mut S,
     sink: &mut K,
     held: &mut Held,
+    out: &mut Out,
     settings: &Settings,
     marks: &mut Marks,
     buffers: &mut Buffers,
@@ -126,6 +137,7 @@ fn serve_all<D: Desk, G: Gate, S: Source, K: Sink, L: Ledger>(
             source,
             sink,
             held,
+            out,
             settings,
             left <= 1,
             marks,

@@ -6,13 +6,14 @@ ghost use Rattle.session_model.specs.Sessions.{IsWriteFault};
 ghost use Rattle.session_model.specs.declared.end.End.TheVariants.{ReadFault};
 ghost use Rattle.http_session.specs.Serving.{IsSomeFault, RefusesSo};
 
+use crate::asked::{Asked, read_asked};
 use crate::marks::Marks;
 use crate::refusal::refusal_of;
 use crate::serve::{fail, serve};
 use book_desk::Desk;
 use edge_io::{Sink, Source};
 use gate::Gate;
-use http_wire::{Got, Held, Room, WireFault, read_request, write_reply};
+use http_wire::{Held, Out, WireFault, write_reply};
 use osv_prim::{Ledger, Steps};
 use osv_record::Buffers;
 use session_model::End;
@@ -27,6 +28,7 @@ pub(crate) fn turn<D: Desk, G: Gate, S: Source, K: Sink, L: Ledger>(
     source: &mut S,
     sink: &mut K,
     held: &mut Held,
+    out: &mut Out,
     settings: &Settings,
     last: bool,
     marks: &mut Marks,
@@ -43,34 +45,31 @@ pub(crate) fn turn<D: Desk, G: Gate, S: Source, K: Sink, L: Ledger>(
     ensures read_fault { result ≡ Some ReadFault → Rose (S.faults source.old) (S.faults source.new) }
     ensures write_fault { IsSomeFault result → Rose (K.faults sink.old) (K.faults sink.new) }
 {
-    let room = Room {
-        body: settings.body,
-    };
-    match read_request(alloc, source, sink, held, room) {
-        Got::Request(request) => {
+    match read_asked(alloc, source, sink, held, settings) {
+        Asked::Request(request, come) => {
             serve(
-                alloc, desk, gate, sink, request, settings, last, marks, buffers, steps,
+                alloc, desk, gate, sink, out, request, come, settings, last, marks, buffers, steps,
             )
         }
-        Got::Refused(fault) => Some(refuse(alloc, sink, fault, settings.body)),
-        Got::Ended => Some(End::Ended),
-        Got::Truncated => Some(End::Truncated),
-        Got::ReadFault => Some(End::ReadFault),
-        Got::WriteFault { out } => Some(End::WriteFault { out }),
-        Got::Memory => Some(fail(sink)),
+        Asked::Refused(fault) => Some(refuse(alloc, sink, out, fault)),
+        Asked::Ended => Some(End::Ended),
+        Asked::Truncated => Some(End::Truncated),
+        Asked::ReadFault => Some(End::ReadFault),
+        Asked::WriteFault { out } => Some(End::WriteFault { out }),
+        Asked::Memory => Some(fail(sink)),
     }
 }
 
 // Answers a request that can't be read.
-fn refuse<K: Sink>(alloc: Global, sink: &mut K, fault: WireFault, limit: u64) -> End
-    ensures refuses { RefusesSo limit fault (K.held sink.old) result (K.held sink.new) }
+fn refuse<K: Sink>(alloc: Global, sink: &mut K, out: &mut Out, fault: WireFault) -> End
+    ensures refuses { RefusesSo fault (K.held sink.old) result (K.held sink.new) }
     ensures later { K.faults sink.old ≤ K.faults sink.new }
     ensures fault { IsWriteFault result → Rose (K.faults sink.old) (K.faults sink.new) }
 {
-    let Ok(reply) = refusal_of(alloc, fault, limit) else {
+    let Ok(reply) = refusal_of(alloc, fault) else {
         return fail(sink);
     };
-    match write_reply(sink, &reply) {
+    match write_reply(sink, out, &reply) {
         Ok(()) => End::Refused(fault),
         Err(fault) => End::WriteFault { out: fault.out },
     }

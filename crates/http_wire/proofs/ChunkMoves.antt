@@ -23,8 +23,8 @@ unfolding next_of
 size-moved limit sum rest None b e = e
 size-moved limit sum rest (Some size) b e = cases (eqb size 0) (ltb limit (sum + size)) e
   where
-    cases : (x y : Bool) → b ≡ cond x (goes limit (stages.Trailers 65536) rest) (cond y (Bad faults.BodyTooLarge) (goes limit (stages.Chunk size (sum + size)) rest))
-        → Moved limit b (cond x (steps.Stage (stages.Trailers 65536)) (cond y (steps.Refused faults.BodyTooLarge) (steps.Stage (stages.Chunk size (sum + size))))) rest
+    cases : (x y : Bool) → b ≡ cond x (goes limit (stages.Trailers 65536) rest) (cond y (Bad (faults.BodyTooLarge limit)) (goes limit (stages.Chunk size (sum + size)) rest))
+        → Moved limit b (cond x (steps.Stage (stages.Trailers 65536)) (cond y (steps.Refused (faults.BodyTooLarge limit)) (steps.Stage (stages.Chunk size (sum + size))))) rest
     cases true y e = e
     cases false true e = e
     cases false false e = e

@@ -21,7 +21,7 @@ chunk-same f g size text h =
 size-same : (f g : ℕ → List ℕ → Body) (limit sum : ℕ) (rest : List ℕ) (o : Option ℕ) → ((s : ℕ) (t : List ℕ) → length t ≤ length rest → f s t ≡ g s t) → on_size f limit sum rest o ≡ on_size g limit sum rest o
 size-same f g limit sum rest None h = refl
 size-same f g limit sum rest (Some size) h =
-    ap (λ (r : Body). cond (eqb size 0) (trailers (suc (length rest)) most_trailers rest) (cond (ltb limit (sum + size)) (Bad faults.BodyTooLarge) r))
+    ap (λ (r : Body). cond (eqb size 0) (trailers (suc (length rest)) most_trailers rest) (cond (ltb limit (sum + size)) (Bad (faults.BodyTooLarge limit)) r))
     (chunk-same (f (sum + size)) (g (sum + size)) size rest (h (sum + size)))
 
 pub shorter : (most : ℕ) (text line rest : List ℕ) → line_of most text ≡ Line line rest → length rest < length text

@@ -11,7 +11,8 @@ use Rattle.http_wire.specs.declared.fault.Framing.{Framing}
 use Rattle.http_wire.specs.declared.request.Request.{Request}
 use Rattle.http_wire.specs.declared.room.Room.{Room}
 use Rattle.http_wire.specs.Bytes.{is_question}
-use Rattle.http_wire.specs.Fields.{Header, headers_of, asking, framing, waits}
+use Rattle.http_wire.specs.Fields.{Header, headers_of, asking, framing, path_of, waits}
+use Rattle.http_wire.specs.Rooms.{limit_at}
 use Rattle.http_wire.specs.Requests.{Head, RefusedHead, framed, opened}
 
 is_false : (b : Bool) → ¬ (b ≡ true) → b ≡ false
@@ -36,16 +37,16 @@ path-none xs h = sym (ap (λ n. take n xs) (question-none xs h) ∙ take_all (le
 pub query-none : (xs : List ℕ) → Nowhere (Passes (is_byte 63) xs) 0 (length xs) → [] ≡ after_first is_question xs
 query-none xs h = sym (ap (λ n. drop (n + 1) xs) (question-none xs h) ∙ drop_all (length xs + 1) xs (omega arith))
 
-pub refused : (room : Room) (h : RequestHead) (hs : List Header) (e : WireFault) (rest : List ℕ) → hs ≡ headers_of h → Err e ≡ framing room.body hs → opened room (Some h) rest ≡ RefusedHead e
+pub refused : (room : Room) (h : RequestHead) (limit : ℕ) (hs : List Header) (e : WireFault) (rest : List ℕ) → limit ≡ limit_at room (path_of h) → hs ≡ headers_of h → Err e ≡ framing limit hs → opened room (Some h) rest ≡ RefusedHead e
 unfolding opened
-refused room h hs e rest same is = ap (framed h rest) (ap (framing room.body) (sym same) ∙ sym is)
+refused room h limit hs e rest l same is = ap (framed h rest) ((λ i. framing (sym l i) (sym same i)) ∙ sym is)
 
-pub accepted : (room : Room) (h : RequestHead) (hs : List Header) (f : Framing) (w : Bool) (a : Request) (method target : List ℕ) (minor : ℕ) (rest : List ℕ)
-    → hs ≡ headers_of h → method ≡ h.method → target ≡ h.target → minor ≡ h.minor
-    → Ok f ≡ framing room.body hs → w ≡ waits minor hs f → a ≡ asking method target minor hs → opened room (Some h) rest ≡ Head a f w rest
+pub accepted : (room : Room) (h : RequestHead) (limit : ℕ) (hs : List Header) (f : Framing) (w : Bool) (a : Request) (method target : List ℕ) (minor : ℕ) (rest : List ℕ)
+    → limit ≡ limit_at room (path_of h) → hs ≡ headers_of h → method ≡ h.method → target ≡ h.target → minor ≡ h.minor
+    → Ok f ≡ framing limit hs → w ≡ waits minor hs f → a ≡ asking method target minor hs → opened room (Some h) rest ≡ Head a f w rest
 unfolding opened
-accepted room h hs f w a method target minor rest same m t v is waiting asks =
-    ap (framed h rest) (ap (framing room.body) (sym same) ∙ sym is)
+accepted room h limit hs f w a method target minor rest l same m t v is waiting asks =
+    ap (framed h rest) ((λ i. framing (sym l i) (sym same i)) ∙ sym is)
     ∙ (λ i. Head (asking (sym m i) (sym t i) (sym v i) (sym same i)) f (waits (sym v i) (sym same i) f) rest)
     ∙ (λ i. Head (sym asks i) f (sym waiting i) rest)
 

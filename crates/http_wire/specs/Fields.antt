@@ -62,7 +62,7 @@ framing limit hs =
     else if not (are_chunked (codings hs)) then Err faults.TransferCoding
     else if not (are_lengths (lengths hs)) then Err faults.BadLength
     else if not (are_identity (contents hs)) then Err faults.ContentCoding
-    else if nat_lt limit (length_of (lengths hs)) then Err faults.BodyTooLarge
+    else if nat_lt limit (length_of (lengths hs)) then Err (faults.BodyTooLarge limit)
     else if is_there (codings hs) then Ok framings.Chunked
     else Ok (framings.Sized (length_of (lengths hs)))
 
@@ -94,6 +94,10 @@ asking method target minor hs = record {
   close = asks_close minor hs;
   body = [];
 }
+
+-- the path that a head asks for
+abbrev pub path_of : RequestHead → List ℕ
+path_of h = before_first is_question h.target
 
 abbrev pub asked : RequestHead → Request
 asked h = asking h.method h.target h.minor (headers_of h)

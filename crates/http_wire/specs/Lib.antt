@@ -3,6 +3,7 @@ pub mod Codes
 pub mod Ends
 pub mod Fields
 pub mod Chunks
+pub mod Rooms
 pub mod Requests
 pub mod Series
 pub mod Window

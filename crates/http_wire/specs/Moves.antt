@@ -26,7 +26,7 @@ unfoldable pub next_of : ℕ → ℕ → Option ℕ → Step
 next_of limit sum None = steps.Refused faults.BadChunk
 next_of limit sum (Some size) =
     if size == 0 then steps.Stage (stages.Trailers most_trailers)
-    else if nat_lt limit (sum + size) then steps.Refused faults.BodyTooLarge
+    else if nat_lt limit (sum + size) then steps.Refused (faults.BodyTooLarge limit)
     else steps.Stage (stages.Chunk size (sum + size))
 
 -- what follows a line of the trailers, which has room for so many bytes

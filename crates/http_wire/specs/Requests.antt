@@ -8,7 +8,8 @@ use Rattle.http_wire.specs.declared.fault.Framing.TheVariants as framings
 use Rattle.http_wire.specs.declared.request.Request.{Request}
 use Rattle.http_wire.specs.declared.room.Room.{Room}
 use Rattle.http_wire.specs.Ends.{without_line_ends, head_len, most_head, front, IsHead}
-use Rattle.http_wire.specs.Fields.{asked, framing, headers_of, waits}
+use Rattle.http_wire.specs.Fields.{asked, framing, headers_of, path_of, waits}
+use Rattle.http_wire.specs.Rooms.{limit_at}
 use Rattle.http_wire.specs.Chunks.{Body, Whole, Bad, Short, chunked, sized}
 
 -- what a text says up to the end of a head
@@ -36,7 +37,7 @@ framed h rest (Ok f) = Head (asked h) f (waits h.minor (headers_of h) f) rest
 -- what is behind a head that is read so
 unfoldable pub opened : Room → Option RequestHead → List ℕ → Opening
 opened room None rest = RefusedHead faults.BadHead
-opened room (Some h) rest = framed h rest (framing room.body (headers_of h))
+opened room (Some h) rest = framed h rest (framing (limit_at room (path_of h)) (headers_of h))
 
 -- where no head ends within its bytes
 unfoldable pub unopened : List ℕ → Opening
@@ -81,7 +82,7 @@ with_body r waits Short = Truncated waits
 
 -- what the text asks, once its opening is known
 unfoldable pub followed : Room → Opening → Outcome
-followed room (Head r f waits rest) = with_body r waits (body room.body f rest)
+followed room (Head r f waits rest) = with_body r waits (body (limit_at room r.path) f rest)
 followed room (RefusedHead e) = Refused e false
 followed room EndedBefore = Ended
 followed room TruncatedHead = Truncated false

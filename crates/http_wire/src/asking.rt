@@ -47,7 +47,8 @@ fn first_min(alloc: Global, bytes: &[u8], lines: &[HeaderSpan]) -> Result<Option
     }
 }
 
-fn split_target(target: &[u8]) -> (&[u8], &[u8])
+/// The path and the query of a target.
+pub(crate) fn split_target(target: &[u8]) -> (&[u8], &[u8])
     ensures path { result.0.now ≡ before_first is_question target.now }
     ensures query { result.1.now ≡ after_first is_question target.now }
 {

@@ -15,9 +15,10 @@ use std::alloc::Global;
 
 /// The whole body behind a head.
 #[derive(Drop)]
-pub(crate) enum ReadBody {
+pub enum ReadBody {
     Whole(Vec<u8>),
     Refused(WireFault),
+    /// The source ended inside the body.
     Truncated,
     ReadFault,
     Memory,
@@ -25,7 +26,7 @@ pub(crate) enum ReadBody {
 
 /// Reads all that is left of a body. Its memory grows with the bytes that come, whatever length the head
 /// told.
-pub(crate) fn read_body<S: Source>(
+pub fn read_body<S: Source>(
     alloc: Global,
     source: &mut S,
     held: &mut Held,

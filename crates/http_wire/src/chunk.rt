@@ -64,7 +64,7 @@ fn take_chunk_line(held: &mut Held, end: usize, sum: u64, limit: u64) -> Step
         Some(0) => Step::Stage(Stage::Trailers(MOST_TRAILERS)),
         Some(size) => {
             if size > limit - sum {
-                Step::Refused(WireFault::BodyTooLarge)
+                Step::Refused(WireFault::BodyTooLarge { limit })
             } else {
                 Step::Stage(Stage::Chunk(size, sum + size))
             }

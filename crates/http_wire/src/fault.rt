@@ -17,8 +17,8 @@ pub enum WireFault {
     BadLength,
     /// A `content-encoding` is not `identity`.
     ContentCoding,
-    /// The length, or the sum of the sizes of the chunks so far, is above the limit.
-    BodyTooLarge,
+    /// The length, or the sum of the sizes of the chunks so far, is above the limit of the path.
+    BodyTooLarge { limit: u64 },
     /// A chunk, or a line behind the last one, is malformed or too long (RFC 9112, section 7.1).
     BadChunk,
 }
@@ -33,7 +33,7 @@ impl WireFault {
             WireFault::BadLength => 2,
             WireFault::BothLengths => 3,
             WireFault::BadChunk => 4,
-            WireFault::BodyTooLarge => 5,
+            WireFault::BodyTooLarge { .. } => 5,
             WireFault::ContentCoding => 6,
             WireFault::HeadTooLong => 7,
             WireFault::TransferCoding => 8,

@@ -2,7 +2,7 @@ ghost use Rattle.std.specs.Prelude.{◌≡◌, ◌≤◌, ◌<◌, true, length,
 ghost use Rattle.std.specs.Io.KnownBytes.{Appends, prepend_known};
 ghost use Rattle.edge_io.specs.Causes.{Rose, HasCause};
 ghost use Rattle.http_wire.specs.Requests.{interim};
-ghost use Rattle.http_wire.specs.Heads.{HeadTells, IsWriteFault};
+ghost use Rattle.http_wire.specs.Heads.{HeadTells, IsCounted, IsWriteFault};
 ghost use Rattle.http_wire.specs.declared.head.GotHead.TheVariants.{ReadFault};
 
 use crate::fault::WireFault;
@@ -11,7 +11,7 @@ use crate::opening::{Opened, read_opening};
 use crate::part::rest_of;
 use crate::request::Request;
 use crate::rest::Rest;
-use crate::room::Room;
+use crate::room::{Room, limit_at};
 use edge_io::{Sink, SinkFault, Source, write_whole};
 use std::alloc::Global;
 
@@ -45,6 +45,8 @@ pub fn read_head<S: Source, K: Sink>(
     ensures tells { HeadTells room (prepend_known held.old (S.left source.old)) (K.held sink.old) result
         held.new (prepend_known held.new (S.left source.new)) (K.held sink.new) }
 
+    ensures counted { IsCounted result }
+
     // A fault comes only where one rose in this call.
     ensures read_later { S.faults source.old ≤ S.faults source.new }
     ensures write_later { K.faults sink.old ≤ K.faults sink.new }
@@ -53,8 +55,9 @@ pub fn read_head<S: Source, K: Sink>(
 {
     match read_opening(alloc, source, held, room) {
         Opened::Head(request, framing, waits) => {
+            let rest = rest_of(framing, limit_at(room, request.path.as_slice()));
             match write_interim(sink, waits) {
-                Ok(()) => GotHead::Head(request, rest_of(framing, room.body)),
+                Ok(()) => GotHead::Head(request, rest),
                 Err(fault) => GotHead::WriteFault { out: fault.out },
             }
         }

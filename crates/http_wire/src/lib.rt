@@ -2,7 +2,8 @@
 //!
 //! ```
 //! let mut held = Held::new(alloc)?;
-//! match read_request(alloc, &mut source, &mut sink, &mut held, Room { body: 1 << 20 }) {
+//! let room = Room { body: 1 << 20, stream: 1 << 30 };
+//! match read_request(alloc, &mut source, &mut sink, &mut held, room) {
 //!     Got::Request(request) => answer(request),
 //! ```
 #![tactic(auto)]
@@ -36,9 +37,11 @@ mod window;
 mod words;
 mod write;
 
+pub use body::{ReadBody, read_body};
 pub use fault::WireFault;
 pub use head::{GotHead, read_head};
 pub use held::Held;
+pub use out::Out;
 pub use part::read_part;
 pub use read::{Got, read_request};
 pub use reply::{Allow, Reply};

@@ -4,14 +4,14 @@ ghost use Rattle.edge_io.specs.Causes.{Rose};
 ghost use Rattle.http_wire.specs.Opened.{IsHeadAt, Judges, TellsOf};
 ghost use Rattle.http_wire.specs.declared.opening.Opened.TheVariants.{ReadFault};
 
-use crate::asking::request_of;
+use crate::asking::{request_of, split_target};
 use crate::fault::{Framing, WireFault};
 use crate::fields::{framing, waits};
 use crate::find::{Found, find_head};
 use crate::held::Held;
 use crate::parse::parse_head;
 use crate::request::Request;
-use crate::room::Room;
+use crate::room::{Room, limit_at};
 use edge_io::Source;
 use httparse::spans::{EMPTY_HEADER_SPAN, HeaderSpan, RequestSpans};
 use std::alloc::Global;
@@ -85,7 +85,8 @@ fn accept(
     ensures { Judges room bytes.now result }
 {
     let lines = &lines[..spans.headers];
-    match framing(bytes, lines, room.body) {
+    let (path, _) = split_target(spans.path.of(bytes));
+    match framing(bytes, lines, limit_at(room, path)) {
         Err(fault) => Opened::Refused(fault),
         Ok(framing) => {
             let waits = waits(bytes, lines, spans.version, framing);

@@ -1,4 +1,4 @@
-ghost use Rattle.std.specs.Prelude.{◌≡◌, ◌≤◌, ◌<◌, ◌+◌, List, ℕ, length, min, vec_capacity};
+ghost use Rattle.std.specs.Prelude.{◌≡◌, ◌≤◌, ◌<◌, ◌+◌, ◌^◌, List, ℕ, length, min, vec_capacity};
 ghost use Rattle.std.specs.Io.KnownBytes.{prepend_known};
 ghost use Rattle.edge_io.specs.Causes.{Rose};
 ghost use Rattle.http_wire.specs.Parts.{GivesBehind};
@@ -19,7 +19,8 @@ use edge_io::Source;
 /// The whole body behind a head.
 #[tactic(auto, unfolding(crate::specs::Chunks::chunked))]
 pub(crate) fn rest_of(framing: Framing, limit: u64) -> Rest
-    ensures { (text : List ℕ) → left_of result text ≡ body limit framing text }
+    ensures left { (text : List ℕ) → left_of result text ≡ body limit framing text }
+    ensures counted { work_of result < 2 ^ 64 }
 {
     match framing {
         Framing::Sized(length) => Rest {
@@ -47,6 +48,10 @@ pub fn read_part<S: Source>(
     ensures gives { PartOf rest.old (prepend_known held.old (S.left source.old)) result part.new.items rest.new (prepend_known held.new (S.left source.new)) }
     ensures room { 65536 ≤ vec_capacity part.new }
 
+    // What is left falls by the part.
+    ensures some { result ≡ More → work_of rest.new < work_of rest.old }
+    ensures less { result ≡ More → length part.new.items + work_of rest.new ≤ work_of rest.old }
+
     // A fault comes only where one rose in this call.
     ensures later { S.faults source.old ≤ S.faults source.new }
     ensures fault { result ≡ ReadFault → Rose (S.faults source.old) (S.faults source.new) }
@@ -63,11 +68,12 @@ pub(crate) fn next_part<S: Source>(
     most: usize,
     part: &mut Vec<u8>,
 ) -> Part
-    requires some { min (work_of rest.old) 1 ≤ most }
+    requires more { min (work_of rest.old) 1 ≤ most }
     requires few { most ≤ 65536 }
     requires room { length part.old.items + most ≤ vec_capacity part.old }
     ensures gives { PartBehind rest.old (prepend_known held.old (S.left source.old)) part.old.items result part.new.items rest.new (prepend_known held.new (S.left source.new)) }
-    ensures less { result ≡ More → work_of rest.new < work_of rest.old }
+    ensures some { result ≡ More → work_of rest.new < work_of rest.old }
+    ensures less { result ≡ More → length part.new.items + work_of rest.new ≤ length part.old.items + work_of rest.old }
     ensures capacity { vec_capacity part.old ≤ vec_capacity part.new }
     ensures later { S.faults source.old ≤ S.faults source.new }
     ensures fault { result ≡ ReadFault → Rose (S.faults source.old) (S.faults source.new) }
@@ -90,12 +96,13 @@ fn take_part<S: Source>(
     part: &mut Vec<u8>,
 ) -> Part
     requires ready { IsReady rest.old.limit stage }
-    requires some { min (work rest.old.limit stage) 1 ≤ most }
+    requires more { min (work rest.old.limit stage) 1 ≤ most }
     requires few { most ≤ 65536 }
     requires room { length part.old.items + most ≤ vec_capacity part.old }
     ensures gives { GivesBehind rest.old.limit stage (prepend_known held.old (S.left source.old)) part.old.items result part.new.items rest.new.stage (prepend_known held.new (S.left source.new)) }
     ensures limit { rest.new.limit ≡ rest.old.limit }
-    ensures less { result ≡ More → work rest.old.limit rest.new.stage < work rest.old.limit stage }
+    ensures some { result ≡ More → work rest.old.limit rest.new.stage < work rest.old.limit stage }
+    ensures less { result ≡ More → length part.new.items + work rest.old.limit rest.new.stage ≤ length part.old.items + work rest.old.limit stage }
     ensures capacity { vec_capacity part.old ≤ vec_capacity part.new }
     ensures later { S.faults source.old ≤ S.faults source.new }
     ensures fault { result ≡ ReadFault → Rose (S.faults source.old) (S.faults source.new) }

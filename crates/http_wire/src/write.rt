@@ -8,18 +8,18 @@ use crate::out::Out;
 use crate::reply::Reply;
 use edge_io::{Sink, SinkFault, write_whole};
 
-/// Writes a reply: from the stack in one write where head and body have at most 4,096 bytes together, else
+/// Writes a reply: from `out` in one write where head and body have at most 65,536 bytes together, else
 /// in two. It takes no memory.
 #[tactic(auto, unfolding(crate::specs::Replies::spelled))]
-pub fn write_reply<K: Sink>(sink: &mut K, reply: &Reply) -> Result<(), SinkFault>
+pub fn write_reply<K: Sink>(sink: &mut K, out: &mut Out, reply: &Reply) -> Result<(), SinkFault>
     requires { HasPhrase reply.now.status }
     ensures ok { OnOk result (Appends (K.held sink.old) (K.held sink.new) (spelled reply.now)) }
     ensures err { IfErr result (λ f. Appends (K.held sink.old) (K.held sink.new) (take f.out (spelled reply.now))) }
     ensures within { IfErr result (λ f. f.out < length (spelled reply.now)) }
     ensures cause { HasCause (K.faults sink.old) (K.faults sink.new) result }
 {
-    let mut out = Out::new();
-    put_head(&mut out, reply);
+    out.clear();
+    put_head(out, reply);
     let body = reply.body.as_slice();
     if out.has_room(body.len()) {
         out.put(body);

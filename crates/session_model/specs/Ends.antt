@@ -90,7 +90,7 @@ Fits last Nothing end = StopsBy end
 -- ---- bytes
 
 abbrev pub room_of : Settings → Room
-room_of s = record { body = s.body }
+room_of s = record { body = s.body; stream = s.stream }
 
 -- the text was written, or at a fault its first so many bytes
 abbrev pub Writes : Option (List ℕ) → List ℕ → Option End → Option (List ℕ) → Type 0
@@ -115,7 +115,7 @@ IsAsked s text x left = (rest : List ℕ) × Next (room_of s) text (Asked x.requ
 -- the text has a request that is refused so, and this is written
 abbrev pub WritesRefusal : Settings → List ℕ → Option (List ℕ) → WireFault → Option End → Option (List ℕ) → Type 0
 WritesRefusal s text out fault end out_now =
-    (waits : Bool) × Next (room_of s) text (Refused fault waits) × WritesBehind out waits (spelled (wire_reply s.body fault)) end out_now
+    (waits : Bool) × Next (room_of s) text (Refused fault waits) × WritesBehind out waits (spelled (wire_reply fault)) end out_now
 
 -- there was no memory to read a request, or to refuse it; the interim may stand before the reply
 abbrev pub WritesFailure : Option (List ℕ) → Option End → Option (List ℕ) → Type 0

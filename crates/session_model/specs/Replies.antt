@@ -29,29 +29,29 @@ method_reply closes allow = record { body = refusal_body refusals.MethodNotAllow
 
 -- ---- to requests that can't be read, behind which the connection closes
 
--- why a request can't be read, where bodies have at most so many bytes
-abbrev pub wire_message : ℕ → WireFault → List ℕ
-wire_message limit faults.BadHead = codes "bad request head"
-wire_message limit faults.BadLength = codes "bad content-length"
-wire_message limit faults.BothLengths = codes "content-length with transfer-encoding"
-wire_message limit faults.BadChunk = codes "bad chunk"
-wire_message limit faults.BodyTooLarge = codes "body larger than " ++ decimal limit
-wire_message limit faults.ContentCoding = codes "content-encoding not supported"
-wire_message limit faults.HeadTooLong = codes "request head too long"
-wire_message limit faults.TransferCoding = codes "transfer-encoding not supported"
+-- why a request can't be read
+abbrev pub wire_message : WireFault → List ℕ
+wire_message faults.BadHead = codes "bad request head"
+wire_message faults.BadLength = codes "bad content-length"
+wire_message faults.BothLengths = codes "content-length with transfer-encoding"
+wire_message faults.BadChunk = codes "bad chunk"
+wire_message (faults.BodyTooLarge limit) = codes "body larger than " ++ decimal limit
+wire_message faults.ContentCoding = codes "content-encoding not supported"
+wire_message faults.HeadTooLong = codes "request head too long"
+wire_message faults.TransferCoding = codes "transfer-encoding not supported"
 
 abbrev pub wire_status : WireFault → ℕ
 wire_status faults.BadHead = 400
 wire_status faults.BadLength = 400
 wire_status faults.BothLengths = 400
 wire_status faults.BadChunk = 400
-wire_status faults.BodyTooLarge = 413
+wire_status (faults.BodyTooLarge limit) = 413
 wire_status faults.ContentCoding = 415
 wire_status faults.HeadTooLong = 431
 wire_status faults.TransferCoding = 501
 
-unfoldable pub wire_body : ℕ → WireFault → List ℕ
-wire_body limit fault = body_of (wire.code_of fault) (wire_message limit fault)
+unfoldable pub wire_body : WireFault → List ℕ
+wire_body fault = body_of (wire.code_of fault) (wire_message fault)
 
-unfoldable pub wire_reply : ℕ → WireFault → Reply
-wire_reply limit fault = record { body = wire_body limit fault; snapshot = None; allow = None; status = wire_status fault; close = true }
+unfoldable pub wire_reply : WireFault → Reply
+wire_reply fault = record { body = wire_body fault; snapshot = None; allow = None; status = wire_status fault; close = true }
