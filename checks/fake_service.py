@@ -77,7 +77,8 @@ class Fake:
         for number in range(1, self.most + 1):
             while True:
                 try:
-                    request, end = wire_model.next_request(text, 0, self.service.settings["body"])
+                    settings = self.service.settings
+                    request, end = wire_model.next_request(text, 0, settings["body"], settings["stream"])
                     break
                 except (wire_model.Ended, wire_model.Truncated):
                     piece = connection.recv(1 << 20)
@@ -85,9 +86,7 @@ class Fake:
                         return
                     text += piece
                 except wire_model.Refused as refused:
-                    status, message = wire_model.FAULTS[refused.code]
-                    message = message.format(limit=self.service.settings["body"])
-                    connection.sendall(wire_model.reply(status, wire_model.refusal(refused.code, message), True))
+                    connection.sendall(refused.reply())
                     return
             text = text[end:]
             closes = request.close or number == self.most

@@ -13,7 +13,8 @@ from version_model import U64
 from wire_model import refusal, reply, session
 
 SETTINGS = {
-    "keep": 8, "page": 100, "weight": 1_073_741_824, "commits": 16_777_216, "body": 268_435_456, "requests": 1_000_000,
+    "keep": 8, "page": 100, "weight": 1_073_741_824, "commits": 16_777_216, "body": 268_435_456, "stream": 8_589_934_592,
+    "requests": 1_000_000,
 }
 
 
@@ -193,4 +194,5 @@ def settings_of(words):
 def replayed(words, text):
     """What `replay` writes for a text, and its status."""
     service = Service(**settings_of(words))
-    return session(text, service.settings["body"], service.settings["requests"], service.answered)
+    settings = service.settings
+    return session(text, settings["body"], settings["stream"], settings["requests"], service.answered)

@@ -29,8 +29,13 @@ FAULTS = {
 class Refused(Exception):
     """The text is refused by the code, and the interim reply was due before it or not."""
 
-    def __init__(self, code, waits=False):
-        self.code, self.waits = code, waits
+    def __init__(self, code, limit=None):
+        self.code, self.limit, self.waits = code, limit, False
+
+    def reply(self):
+        """What is written of it, behind the interim reply where that was due."""
+        status, message = FAULTS[self.code]
+        return (INTERIM if self.waits else b"") + reply(status, refusal(self.code, message.format(limit=self.limit)), True)
 
 
 class Ended(Exception):
@@ -88,7 +93,7 @@ def framing(request, limit):
         raise Refused(6)
     length = int(lengths[0]) if lengths else 0
     if length > limit:
-        raise Refused(5)
+        raise Refused(5, limit)
     return None if codings else length
 
 
@@ -114,7 +119,7 @@ def chunks(text, at, limit):
         if size == 0:
             break
         if sum(map(len, body)) + size > limit:
-            raise Refused(5)
+            raise Refused(5, limit)
         if len(text) < at + size + 2:
             raise Truncated()
         if text[at + size:at + size + 2] != b"\r\n":
@@ -129,8 +134,8 @@ def chunks(text, at, limit):
     return b"".join(body), at
 
 
-def next_request(text, start, limit):
-    """The request at a place of the text, and the place behind it."""
+def next_request(text, start, body, stream):
+    """The request at a place of the text, and the place behind it, by the limits of bodies and of streams."""
     skipped = LINE_ENDS.match(text, start, start + MOST_HEAD).end()
     end = HEAD_END.search(text, skipped, start + MOST_HEAD)
     if not end:
@@ -138,6 +143,7 @@ def next_request(text, start, limit):
             raise Refused(7)
         raise Ended() if skipped == len(text) else Truncated()
     request = head_of(text[skipped:end.end()])
+    limit = stream if request.path == b"/x/repo" else body
     length, at = framing(request, limit), end.end()
     expects = any(value.lower() == b"100-continue" for value in request.values(b"expect"))
     request.waits = request.minor == 1 and expects and length != 0
@@ -149,7 +155,8 @@ def next_request(text, start, limit):
         else:
             request.body, at = text[at:at + length], at + length
     except Refused as refused:
-        raise Refused(refused.code, request.waits)
+        refused.waits = request.waits
+        raise
     except Truncated:
         raise Truncated(request.waits)
     return request, at
@@ -171,17 +178,14 @@ def refusal(code, message):
     return b'{"code":%d,"message":"%s"}' % (code, message.encode())
 
 
-def session(text, limit, most, answered):
+def session(text, body, stream, most, answered):
     """What is written for a text, and the status: `answered(request, closes)` gives the bytes of each reply."""
     written, at = [], 0
     for number in range(1, most + 1):
         try:
-            request, at = next_request(text, at, limit)
+            request, at = next_request(text, at, body, stream)
         except Refused as refused:
-            status, message = FAULTS[refused.code]
-            interim = INTERIM if refused.waits else b""
-            written.append(interim + reply(status, refusal(refused.code, message.format(limit=limit)), True))
-            return b"".join(written), 5
+            return b"".join(written + [refused.reply()]), 5
         except Truncated as cut:
             return b"".join(written + [INTERIM if cut.waits else b""]), 5
         except Ended:
