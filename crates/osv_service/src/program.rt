@@ -19,6 +19,7 @@ use line_input::ReadStop;
 use osv_prim::{Ledger, Steps};
 use settings::Settings;
 use std::alloc::Global;
+use std::mem;
 
 pub(crate) const USAGE: &str =
     "usage: osv_service ask [--input N] ECOSYSTEM NAME [VERSION]\n       osv_service ask [--input N] --commit OID [ECOSYSTEM NAME]\n       osv_service check [--input N]\n       osv_service replay [SETTINGS]\n       osv_service drill SEED SIZE\n       osv_service serve [SETTINGS] [--lanes N] [--helpers N] ADDRESS\n";
@@ -93,6 +94,8 @@ fn replay<S: Source, K: Sink, L: Ledger>(
         return 6;
     };
     let session = serve_session(alloc, &mut desk, &OpenGate, source, sink, settings, steps);
+    // Its memory goes back with the process, which ends now: faster than block by block.
+    mem::forget(desk);
     status_behind(session.end)
 }
 
