@@ -10,4 +10,5 @@ mod index;
 mod moving;
 mod numbers;
 
+pub use distinct::sort_distinct;
 pub use index::PackageIndex;
