@@ -45,7 +45,7 @@ some_test : (b : Bool) (n : ℕ) → is_some (cond b (Some n) None) ≡ b
 some_test true n = refl
 some_test false n = refl
 
-has_number : (graph : List CommitRow) (c : List ℕ) → is_some (number_of graph c) ≡ of_rows.has graph c
+pub has_number : (graph : List CommitRow) (c : List ℕ) → is_some (number_of graph c) ≡ of_rows.has graph c
 has_number graph c =
     some_test (nat_lt (position_or_len (bytes_eq c) (of_rows.ids graph)) (length (of_rows.ids graph))) (position_or_len (bytes_eq c) (of_rows.ids graph))
     ∙ within_any (bytes_eq c) (of_rows.ids graph)

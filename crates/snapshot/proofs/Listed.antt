@@ -1,4 +1,4 @@
--- The advisories that are listed under a package, from an index on.
+-- The advisories that pass a test, by their indexes from one on, and those that are listed under a package.
 use Rattle.std.proofs.Common.{◌≡◌, ℕ, zero, suc, ◌+◌, ◌<◌, ◌≤◌, Bool, true, false, cond, ◌&&◌, not, leb, ltb, List, [], ◌∷◌, ◌++◌, length, map, drop, get_or, All, Option, Some, None, Less, inl, inr, refl, sym, ap, subst, ◌∙◌, arith, append_assoc, length-append}
 use Rattle.std.specs.Prelude.{filter, pos}
 use Rattle.std.specs.List.{list_any, AllByRecursion}
@@ -13,12 +13,13 @@ use Rattle.osv_prim.specs.Packages.{matches}
 use Rattle.evaluate.specs.Hits.{affects_version, version_entry_hit}
 use Rattle.package_index.specs.Listing.{has_package, lists, listed_from, listed}
 use Rattle.package_index.proofs.Rising.{below}
+use Rattle.repo_index.specs.Listing.{indexes_from}
 use Rattle.snapshot.specs.Subjects.{is_package_hit}
 use Rattle.snapshot.proofs.Joining.{twice}
 
--- ---- what is listed among advisories that stand behind others
+-- ---- the indexes of those that pass a test, among advisories that stand behind others
 
-module _ (asked : PackageKey) where
+module _ (test : Advisory → Bool) where
   first-here : (b : Bool) (n : ℕ) (rest : List ℕ) → cond b (n ∷ []) [] ++ rest ≡ cond b (n ∷ rest) rest
   first-here true n rest = refl
   first-here false n rest = refl
@@ -32,19 +33,19 @@ module _ (asked : PackageKey) where
   at-seam none r [] rest = refl
   at-seam none r (x ∷ front) rest = at-seam none r front rest
 
-  -- the advisories at these indexes are those that list the package
-  pub listed-behind : (none : Advisory) (front xs whole : List Advisory) (n : ℕ) → whole ≡ front ++ xs → n ≡ length front → map (λ i. get_or whole i none) (listed_from n xs asked) ≡ filter (lists asked) xs
-  listed-behind none front [] whole n is at = refl
-  listed-behind none front (r ∷ xs) whole n is at =
-      seen-here none whole (lists asked r) n (listed_from (n + 1) xs asked) r (filter (lists asked) xs)
+  -- the advisories at these indexes are those that pass
+  pub indexes-behind : (none : Advisory) (front xs whole : List Advisory) (n : ℕ) → whole ≡ front ++ xs → n ≡ length front → map (λ i. get_or whole i none) (indexes_from test n xs) ≡ filter test xs
+  indexes-behind none front [] whole n is at = refl
+  indexes-behind none front (r ∷ xs) whole n is at =
+      seen-here none whole (test r) n (indexes_from test (n + 1) xs) r (filter test xs)
       (ap (λ (ys : List Advisory). get_or ys n none) is ∙ ap (λ (k : ℕ). get_or (front ++ r ∷ xs) k none) at ∙ at-seam none r front xs)
-      (listed-behind none (front ++ r ∷ []) xs whole (n + 1) (is ∙ sym (append_assoc front (r ∷ []) xs)) (omega (arith, at, length-append front (r ∷ []))))
+      (indexes-behind none (front ++ r ∷ []) xs whole (n + 1) (is ∙ sym (append_assoc front (r ∷ []) xs)) (omega (arith, at, length-append front (r ∷ []))))
 
-  pub listed-both : (n : ℕ) (front xs : List Advisory) → listed_from n (front ++ xs) asked ≡ listed_from n front asked ++ listed_from (n + length front) xs asked
-  listed-both n [] xs = ap (λ (k : ℕ). listed_from k xs asked) (omega arith)
-  listed-both n (r ∷ front) xs =
-      ap (λ (ys : List ℕ). cond (lists asked r) (n ∷ []) [] ++ ys) (listed-both (n + 1) front xs ∙ ap (λ (k : ℕ). listed_from (n + 1) front asked ++ listed_from k xs asked) (omega arith))
-      ∙ sym (append_assoc (cond (lists asked r) (n ∷ []) []) (listed_from (n + 1) front asked) (listed_from (n + length (r ∷ front)) xs asked))
+  pub indexes-both : (n : ℕ) (front xs : List Advisory) → indexes_from test n (front ++ xs) ≡ indexes_from test n front ++ indexes_from test (n + length front) xs
+  indexes-both n [] xs = ap (λ (k : ℕ). indexes_from test k xs) (omega arith)
+  indexes-both n (r ∷ front) xs =
+      ap (λ (ys : List ℕ). cond (test r) (n ∷ []) [] ++ ys) (indexes-both (n + 1) front xs ∙ ap (λ (k : ℕ). indexes_from test (n + 1) front ++ indexes_from test k xs) (omega arith))
+      ∙ sym (append_assoc (cond (test r) (n ∷ []) []) (indexes_from test (n + 1) front) (indexes_from test (n + length (r ∷ front)) xs))
 
   -- ---- bounds
 
@@ -59,17 +60,17 @@ module _ (asked : PackageKey) where
   one-between true n high xs lt all = ((omega arith, lt), wider n high xs all)
   one-between false n high xs lt all = wider n high xs all
 
-  listed-between : (n high : ℕ) (xs : List Advisory) → n + length xs ≤ high → Between n high (listed_from n xs asked)
-  listed-between n high [] le = tt
-  listed-between n high (r ∷ xs) le = one-between (lists asked r) n high (listed_from (n + 1) xs asked) (omega (arith, le)) (listed-between (n + 1) high xs (omega (arith, le)))
+  indexes-between : (n high : ℕ) (xs : List Advisory) → n + length xs ≤ high → Between n high (indexes_from test n xs)
+  indexes-between n high [] le = tt
+  indexes-between n high (r ∷ xs) le = one-between (test r) n high (indexes_from test (n + 1) xs) (omega (arith, le)) (indexes-between (n + 1) high xs (omega (arith, le)))
 
   within : (low high : ℕ) (xs : List ℕ) → Between low high xs → All (λ i. i < high) xs
   within low high [] all j d lt = absurd (omega (arith, lt))
   within low high (x ∷ xs) all zero d lt = all.0.1
   within low high (x ∷ xs) all (suc j) d lt = within low high xs all.1 j d (omega (arith, lt))
 
-  pub listed-within : (n high : ℕ) (xs : List Advisory) → n + length xs ≤ high → All (λ i. i < high) (listed_from n xs asked)
-  listed-within n high xs le = within n high (listed_from n xs asked) (listed-between n high xs le)
+  pub indexes-within : (n high : ℕ) (xs : List Advisory) → n + length xs ≤ high → All (λ i. i < high) (indexes_from test n xs)
+  indexes-within n high xs le = within n high (indexes_from test n xs) (indexes-between n high xs le)
 
   none-from : (low high start : ℕ) (xs : List ℕ) → high ≤ start → Between low high xs → filter (λ i. leb start i) xs ≡ []
   none-from low high start [] le all = refl
@@ -82,23 +83,39 @@ module _ (asked : PackageKey) where
       ap (λ (b : Bool). cond b (x ∷ filter (λ i. leb start i) xs) (filter (λ i. leb start i) xs)) (le-leb start x (omega (arith, le, all.0.0))) ∙ ap (λ (ys : List ℕ). x ∷ ys) (all-from low high start xs le all.1)
 
   -- those from the seam on
-  pub from-seam : (front xs whole : List Advisory) → whole ≡ front ++ xs → filter (λ i. leb (length front) i) (listed whole asked) ≡ listed_from (length front) xs asked
+  pub from-seam : (front xs whole : List Advisory) → whole ≡ front ++ xs → filter (λ i. leb (length front) i) (indexes_from test 0 whole) ≡ indexes_from test (length front) xs
   from-seam front xs whole is =
       let n = length front in
-      ap (λ (ys : List Advisory). filter (λ i. leb n i) (listed ys asked)) is ∙ ap (filter (λ i. leb n i)) (listed-both 0 front xs)
-      ∙ filter-append (λ i. leb n i) (listed_from 0 front asked) (listed_from (0 + n) xs asked)
-      ∙ ap (λ (ys : List ℕ). ys ++ filter (λ i. leb n i) (listed_from (0 + n) xs asked)) (none-from 0 n n (listed_from 0 front asked) (omega arith) (listed-between 0 n front (omega arith)))
-      ∙ all-from (0 + n) (0 + n + length xs) n (listed_from (0 + n) xs asked) (omega arith) (listed-between (0 + n) (0 + n + length xs) xs (omega arith))
-      ∙ ap (λ (k : ℕ). listed_from k xs asked) (omega arith)
+      ap (λ (ys : List Advisory). filter (λ i. leb n i) (indexes_from test 0 ys)) is ∙ ap (filter (λ i. leb n i)) (indexes-both 0 front xs)
+      ∙ filter-append (λ i. leb n i) (indexes_from test 0 front) (indexes_from test (0 + n) xs)
+      ∙ ap (λ (ys : List ℕ). ys ++ filter (λ i. leb n i) (indexes_from test (0 + n) xs)) (none-from 0 n n (indexes_from test 0 front) (omega arith) (indexes-between 0 n front (omega arith)))
+      ∙ all-from (0 + n) (0 + n + length xs) n (indexes_from test (0 + n) xs) (omega arith) (indexes-between (0 + n) (0 + n + length xs) xs (omega arith))
+      ∙ ap (λ (k : ℕ). indexes_from test k xs) (omega arith)
 
   fewer-here : (b : Bool) (n count : ℕ) (xs : List ℕ) → length xs ≤ count → length (cond b (n ∷ []) [] ++ xs) ≤ suc count
   fewer-here true n count xs le = omega (arith, le)
   fewer-here false n count xs le = omega (arith, le)
 
-  pub listed-fewer : (n : ℕ) (xs : List Advisory) → length (listed_from n xs asked) ≤ length xs
-  listed-fewer n [] = omega arith
-  listed-fewer n (r ∷ xs) = fewer-here (lists asked r) n (length xs) (listed_from (n + 1) xs asked) (listed-fewer (n + 1) xs)
+  pub indexes-fewer : (n : ℕ) (xs : List Advisory) → length (indexes_from test n xs) ≤ length xs
+  indexes-fewer n [] = omega arith
+  indexes-fewer n (r ∷ xs) = fewer-here (test r) n (length xs) (indexes_from test (n + 1) xs) (indexes-fewer (n + 1) xs)
 
+  -- the indexes in the end of some advisories, where each hit passes
+  pub indexes-end : (h : Advisory → Bool) → ((r : Advisory) → h r ≡ true → test r ≡ true) → (none : Advisory) (front above all : List Advisory) → all ≡ front ++ above
+      → (indexes : List ℕ) → indexes ≡ filter (λ i. leb (length front) i) (indexes_from test 0 all)
+      → All (λ i. i < length all) indexes × (filter h (map (λ i. get_or all i none) indexes) ≡ filter h above) × (length indexes ≤ length (indexes_from test 0 all))
+  indexes-end h passes none front above all is indexes are =
+      let n = length front in
+      let here : indexes ≡ indexes_from test n above = are ∙ from-seam front above all is in
+      let long : length all ≡ n + length above = ap (λ (ys : List Advisory). length ys) is ∙ length-append front above in
+      let whole : indexes_from test 0 all ≡ indexes_from test 0 front ++ indexes_from test (0 + n) above = ap (indexes_from test 0) is ∙ indexes-both 0 front above in
+      let same : 0 + n ≡ n = omega arith in (
+        subst (λ (is : List ℕ). All (λ i. i < length all) is) (sym here) (indexes-within n (length all) above (omega (arith, long))),
+        ap (λ (is : List ℕ). filter h (map (λ i. get_or all i none) is)) here ∙ ap (filter h) (indexes-behind none front above all n is refl) ∙ twice test h passes above,
+        omega (arith, ap (λ (is : List ℕ). length is) here, ap (λ (is : List ℕ). length is) whole, length-append (indexes_from test 0 front) (indexes_from test (0 + n) above), ap (λ (k : ℕ). length (indexes_from test k above)) same),
+      )
+
+module _ (asked : PackageKey) where
   -- ---- a hit is listed
 
   entry-lists : (version : Option (List ℕ)) (key : Option PackageKey) (e : Entry) → e.«package» ≡ key → version_entry_hit asked version e ≡ true → has_package asked e.«package» ≡ true
@@ -122,22 +139,19 @@ module _ (asked : PackageKey) where
   pub hit-lists : (version : Option (List ℕ)) (r : Advisory) → is_package_hit asked version r ≡ true → lists asked r ≡ true
   hit-lists version r hit = any-lists version r.affected (and_parts (not r.withdrawn) (list_any (version_entry_hit asked version) r.affected) hit).1
 
-  pub hits-listed : (version : Option (List ℕ)) (xs : List Advisory) → filter (is_package_hit asked version) (filter (lists asked) xs) ≡ filter (is_package_hit asked version) xs
-  hits-listed version xs = twice (lists asked) (is_package_hit asked version) (hit-lists version) xs
+  listed-indexes : (n : ℕ) (rs : List Advisory) → listed_from n rs asked ≡ indexes_from (lists asked) n rs
+  listed-indexes n [] = refl
+  listed-indexes n (r ∷ rs) = ap (λ (ys : List ℕ). cond (lists asked r) (n ∷ []) [] ++ ys) (listed-indexes (n + 1) rs)
+
+  pub listed-fewer : (n : ℕ) (xs : List Advisory) → length (listed_from n xs asked) ≤ length xs
+  listed-fewer n xs = omega (arith, ap (λ (ys : List ℕ). length ys) (listed-indexes n xs), indexes-fewer (lists asked) n xs)
 
   -- what is listed of the end of some advisories
   pub listed-end : (version : Option (List ℕ)) (none : Advisory) (front above all : List Advisory) → all ≡ front ++ above → (indexes : List ℕ) → indexes ≡ filter (λ i. leb (length front) i) (listed all asked)
       → All (λ i. i < length all) indexes × (filter (is_package_hit asked version) (map (λ i. get_or all i none) indexes) ≡ filter (is_package_hit asked version) above) × (length indexes ≤ length (listed all asked))
   listed-end version none front above all is indexes are =
-      let n = length front in
-      let here : indexes ≡ listed_from n above asked = are ∙ from-seam front above all is in
-      let long : length all ≡ n + length above = ap (λ (ys : List Advisory). length ys) is ∙ length-append front above in
-      let whole : listed all asked ≡ listed_from 0 front asked ++ listed_from (0 + n) above asked = ap (λ (ys : List Advisory). listed ys asked) is ∙ listed-both 0 front above in
-      let same : 0 + n ≡ n = omega arith in (
-        subst (λ (is : List ℕ). All (λ i. i < length all) is) (sym here) (listed-within n (length all) above (omega (arith, long))),
-        ap (λ (is : List ℕ). filter (is_package_hit asked version) (map (λ i. get_or all i none) is)) here ∙ ap (filter (is_package_hit asked version)) (listed-behind none front above all n is refl) ∙ hits-listed version above,
-        omega (arith, ap (λ (is : List ℕ). length is) here, ap (λ (is : List ℕ). length is) whole, length-append (listed_from 0 front asked) (listed_from (0 + n) above asked), ap (λ (k : ℕ). length (listed_from k above asked)) same),
-      )
+      let r = indexes-end (lists asked) (is_package_hit asked version) (hit-lists version) none front above all is indexes (are ∙ ap (filter (λ i. leb (length front) i)) (listed-indexes 0 all)) in
+      (r.0, r.1, omega (arith, r.2, ap (λ (ys : List ℕ). length ys) (listed-indexes 0 all)))
 
 -- ---- numbers that ascend
 

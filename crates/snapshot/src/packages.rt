@@ -19,7 +19,7 @@ use std::alloc::Global;
 use std::sync::Arc;
 
 // Indexes of advisories have 32 bits.
-const INDEXES: usize = 1 << 32;
+pub(crate) const INDEXES: usize = 1 << 32;
 
 /// Which advisories have an entry of each package. It is refused, as for want of memory, where there are
 /// 2^32 advisories.
@@ -87,7 +87,8 @@ pub(crate) fn first_package_hits<L: Ledger>(
     Ok(Page { found, more: false })
 }
 
-fn advisory_at(records: &[Arc<Record>], index: u32) -> Option<&Arc<Record>>
+/// The advisory at an index, where it is there.
+pub(crate) fn advisory_at(records: &[Arc<Record>], index: u32) -> Option<&Arc<Record>>
     ensures { option_map (λ a. arc_value a.now) result ≡ slice_get (map (λ a. arc_value a) records.now) index }
 {
     records.get(index as usize)

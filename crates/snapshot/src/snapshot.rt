@@ -1,5 +1,6 @@
 ghost use Rattle.std.specs.Prelude.{◌≡◌, ℕ, ◌+◌, ◌≤◌, List, [], ◌++◌, Bool, Option, IfOk, length, map, filter, option_map};
 ghost use Rattle.std.specs.Arc.{arc_value};
+ghost use Rattle.evaluate.specs.Kept.{commit_subject};
 ghost use Rattle.history.specs.declared.past.Past.{Past};
 ghost use Rattle.history.specs.Prefixes.{records, graphs};
 ghost use Rattle.history.specs.Lookups.{record_of};
@@ -10,9 +11,9 @@ ghost use Rattle.impact_job.specs.Tables as tables;
 ghost use Rattle.impact_job.specs.Order.{Ascend};
 ghost use Rattle.snapshot.specs.Snapshots.{StandsFor, snapshot_upto};
 ghost use Rattle.snapshot.specs.Pages.{is_above, cut, page, page_seen};
-ghost use Rattle.snapshot.specs.Subjects.{is_package_hit, is_commit_hit};
+ghost use Rattle.snapshot.specs.Subjects.{is_package_hit, is_commit_hit, listed_for_commit};
 
-use crate::commits::{first_commit_hits, last_sets};
+use crate::commits::{first_commit_hits, repo_index_of};
 use crate::packages::{as_text, first_package_hits, from_index, index_of};
 use crate::page::Page;
 use id_index::IdIndex;
@@ -20,6 +21,7 @@ use impact_job::{Tables, split_at_id};
 use osv_prim::{Id, Ledger, Memory, Oid, PackageKey, Steps, Subject};
 use osv_record::Record;
 use package_index::PackageIndex;
+use repo_index::RepoIndex;
 use set_hits::places_of;
 use std::alloc::Global;
 use std::sync::Arc;
@@ -30,6 +32,8 @@ pub struct Snapshot {
     pub(crate) tables: Arc<Tables>,
     // The advisories of each package, by their indexes in the tables.
     pub(crate) packages: PackageIndex,
+    // The advisories with GIT ranges on each repository, by their indexes in the tables.
+    pub(crate) repos: RepoIndex,
     // The advisory of each id, by its place in the tables.
     pub(crate) ids: IdIndex,
 }
@@ -71,8 +75,9 @@ impl Snapshot {
 
     /// A page of hits: the first `size` of those whose ids are above `after`, or of all, ascending by id,
     /// and whether there are more. For a package it reads each advisory that is listed under it, with an id
-    /// above `after`, once at most, and for a commit each advisory; it reads none behind the first hit that
-    /// the page doesn't have. It takes no step through a graph. Only memory can fail.
+    /// above `after`, once at most, and for a commit each with a GIT range on a repository that has it; it
+    /// reads none behind the first hit that the page doesn't have. It takes no step through a graph. Only
+    /// memory can fail.
     pub fn answer<L: Ledger>(
         &self,
         alloc: Global,
@@ -85,6 +90,8 @@ impl Snapshot {
         ensures records { (p : List Past) → StandsFor self.now p → steps.new.record_count ≤ steps.old.record_count + length (records p) }
         ensures listed { (p : List Past) (asked : Key) (version : Option (List ℕ)) → StandsFor self.now p → subject.now ≡ Subject.Package asked version
             → steps.new.record_count ≤ steps.old.record_count + length (listed (records p) asked) }
+        ensures of_commit { (p : List Past) (commit : List ℕ) (asked : Option Key) → StandsFor self.now p → subject.now ≡ commit_subject commit asked
+            → steps.new.record_count ≤ steps.old.record_count + length (listed_for_commit p commit) }
         ensures graph { steps.new.graph ≡ steps.old.graph }
     {
         match subject {
@@ -132,13 +139,27 @@ impl Snapshot {
         steps: &mut Steps<L>,
     ) -> Result<Page, Memory>
         ensures page { (p : List Past) → StandsFor self.now p → IfOk result (λ found. page_seen found ≡ cut size (filter (is_above (option_map (λ id. id.now) after.entry)) (filter (is_commit_hit (graphs p) commit.now (option_map (λ k. k.now) asked.entry)) (records p)))) }
-        ensures records { (p : List Past) → StandsFor self.now p → steps.new.record_count ≤ steps.old.record_count + length (records p) }
+        ensures listed { (p : List Past) → StandsFor self.now p → steps.new.record_count ≤ steps.old.record_count + length (listed_for_commit p commit.now) }
         ensures graph { steps.new.graph ≡ steps.old.graph }
     {
-        let last = all_above(self.tables.records.as_slice(), after);
-        let sets = last_sets(self.tables.sets.as_slice(), last.len());
+        let records = self.tables.records.as_slice();
+        // Those above are the end of all.
+        let above = all_above(records, after);
+        let start = records.len().saturating_sub(above.len());
         let places = places_of(alloc, self.tables.repos.as_slice(), commit)?;
-        first_commit_hits(alloc, last, sets, places.as_slice(), asked, size, steps)
+        let listed = self.repos.listed(alloc, places.as_slice())?;
+        let indexes = from_index(listed.as_slice(), start);
+        let sets = self.tables.sets.as_slice();
+        first_commit_hits(
+            alloc,
+            records,
+            sets,
+            indexes,
+            places.as_slice(),
+            asked,
+            size,
+            steps,
+        )
     }
 }
 
@@ -148,10 +169,12 @@ pub(crate) fn of_tables(alloc: Global, kept: Arc<Tables>) -> Result<Snapshot, Me
     ensures upto { IfOk result (λ s. snapshot_upto s ≡ (arc_value kept).upto) }
 {
     let packages = index_of(alloc, kept.records.as_slice())?;
+    let repos = repo_index_of(alloc, kept.records.as_slice())?;
     let ids = IdIndex::build(alloc, kept.records.as_slice())?;
     Ok(Snapshot {
         tables: kept,
         packages,
+        repos,
         ids,
     })
 }

@@ -1,5 +1,5 @@
-use Rattle.std.proofs.Common.{◌≡◌, ℕ, List, length, sym, ap, subst, ◌∙◌, arith}
-use Rattle.std.specs.Prelude.{IfOk, Option, option_map, filter}
+use Rattle.std.proofs.Common.{◌≡◌, ℕ, List, [], length, refl, sym, ap, subst, ◌∙◌, arith}
+use Rattle.std.specs.Prelude.{IfOk, Option, Some, None, option_map, filter}
 use Rattle.osv_prim.specs.declared.package.PackageKey.{PackageKey}
 use Rattle.osv_prim.specs.declared.subject.Subject.{Subject}
 use Rattle.osv_prim.specs.declared.subject.Subject.TheVariants.{Package, Commit, CommitIn}
@@ -7,7 +7,12 @@ use Rattle.history.specs.Prefixes.{records}
 use Rattle.package_index.specs.Listing.{listed}
 use Rattle.snapshot.specs.Pages.{is_above, cut, page, page_seen}
 use Rattle.snapshot.specs.Subjects.{is_package_hit}
-use Rattle.snapshot.proofs.Listed.{listed-fewer}
+use Rattle.evaluate.specs.Kept.{commit_subject}
+use Rattle.history.specs.Prefixes.{graphs}
+use Rattle.repo_index.specs.Listing.{has_on_any}
+use Rattle.set_hits.specs.Places.{places_of}
+use Rattle.snapshot.specs.Subjects.{listed_for_commit, repos_at}
+use Rattle.snapshot.proofs.Listed.{listed-fewer, indexes-fewer}
 use Rattle.snapshot.proofs.snapshot.Snapshot.answer.Goals as goal
 
 pub returns-in-Package-clause-page : goal.returns-in-Package-clause-page
@@ -45,3 +50,38 @@ pub returns-in-CommitIn-clause-page : goal.returns-in-CommitIn-clause-page
 returns-in-CommitIn-clause-page g c = λ p s.
     let after : Option (List ℕ) = option_map (λ id. id.now) c.args.after in
     subst (λ (x : Subject). IfOk c.by_commit-in-CommitIn.result (λ found. page_seen found ≡ page p x after c.args.size)) (sym c.in-CommitIn.is) (c.by_commit-in-CommitIn.ensures.page p s)
+
+-- the commit that is asked for
+abbrev commit_of : Subject → List ℕ → List ℕ
+commit_of (Package asked version) other = other
+commit_of (Commit commit) other = commit
+commit_of (CommitIn commit asked) other = commit
+
+commit_of-is : (commit : List ℕ) (asked : Option PackageKey) (other : List ℕ) → commit_of (commit_subject commit asked) other ≡ commit
+commit_of-is commit None other = refl
+commit_of-is commit (Some asked) other = refl
+
+no_package : (asked : PackageKey) (version : Option (List ℕ)) (commit : List ℕ) (key : Option PackageKey) → Package asked version ≡ commit_subject commit key → ⊥
+no_package asked version commit None e = cc
+no_package asked version commit (Some key) e = cc
+
+pub returns-in-Package-clause-of_commit : goal.returns-in-Package-clause-of_commit
+returns-in-Package-clause-of_commit g c = λ p commit asked s is. absurd (no_package _ _ commit asked (sym c.in-Package.is ∙ is))
+
+pub returns-in-Commit-clause-of_commit : goal.returns-in-Commit-clause-of_commit
+returns-in-Commit-clause-of_commit g c = λ p commit asked s is.
+    let same : c.in-Commit.commit ≡ commit = ap (λ (x : Subject). commit_of x []) (sym c.in-Commit.is ∙ is) ∙ commit_of-is commit asked [] in
+    omega (arith, c.by_commit.ensures.listed p s, ap (λ (o : List ℕ). length (listed_for_commit p o)) same)
+
+pub returns-in-CommitIn-clause-of_commit : goal.returns-in-CommitIn-clause-of_commit
+returns-in-CommitIn-clause-of_commit g c = λ p commit asked s is.
+    let same : c.in-CommitIn.commit ≡ commit = ap (λ (x : Subject). commit_of x []) (sym c.in-CommitIn.is ∙ is) ∙ commit_of-is commit asked [] in
+    omega (arith, c.by_commit-in-CommitIn.ensures.listed p s, ap (λ (o : List ℕ). length (listed_for_commit p o)) same)
+
+pub returns-in-Commit-clause-records : goal.returns-in-Commit-clause-records
+returns-in-Commit-clause-records g c = λ p s.
+    omega (arith, c.by_commit.ensures.listed p s, indexes-fewer (has_on_any (repos_at (places_of (graphs p) c.in-Commit.commit))) 0 (records p))
+
+pub returns-in-CommitIn-clause-records : goal.returns-in-CommitIn-clause-records
+returns-in-CommitIn-clause-records g c = λ p s.
+    omega (arith, c.by_commit-in-CommitIn.ensures.listed p s, indexes-fewer (has_on_any (repos_at (places_of (graphs p) c.in-CommitIn.commit))) 0 (records p))
