@@ -98,7 +98,7 @@ any_cons Free cells e f = f
 any_cons (OutTo by) cells e f = absurd cc
 any_cons Done cells e f = f
 
-none-out-set : (cells : List Cell) (n : ℕ) (c : Cell) → list_any is_out cells ≡ false → is_out c ≡ false → list_any is_out (set cells n c) ≡ false
+pub none-out-set : (cells : List Cell) (n : ℕ) (c : Cell) → list_any is_out cells ≡ false → is_out c ≡ false → list_any is_out (set cells n c) ≡ false
 none-out-set [] n c e f = e
 none-out-set (x ∷ cells) zero c e f = any_cons c cells f (any_tail x cells e)
 none-out-set (x ∷ cells) (suc n) c e f = any_cons x (set cells n c) (any_head x cells e) (none-out-set cells n c (any_tail x cells e) f)
@@ -111,7 +111,7 @@ filled_step : (t : Bool) (upto : ℕ) (cells : List Cell) → list_any is_out ce
 filled_step true upto cells e = refl
 filled_step false upto cells e = e
 
-none-out-filled : (upto : ℕ) (cells : List Cell) → list_any is_out cells ≡ false → list_any is_out (filled upto cells).cells ≡ false
+pub none-out-filled : (upto : ℕ) (cells : List Cell) → list_any is_out cells ≡ false → list_any is_out (filled upto cells).cells ≡ false
 none-out-filled upto cells e = filled_step (list_all is_done cells) upto cells e
 
 pub none-out-over : (h : History) (build : Option Build) → list_any is_out (cells_in build) ≡ false → list_any is_out (build_over h build).cells ≡ false

@@ -2,22 +2,20 @@
 use Rattle.std.proofs.Common.{◌≡◌, ◌≢◌, inl, inr, ℕ, ◌+◌, ◌<◌, ◌≤◌, false, min, List, [], ◌∷◌, ◌++◌, length, refl, sym, ap, subst, ◌∙◌, append_assoc, arith, length-append}
 use mathlib.Core.List.{IsPrefix}
 use Rattle.std.proofs.lemmas.List.{append-nil}
+use Rattle.settings.specs.declared.TheConstants.{MAX_WEIGHT}
 use Rattle.history.specs.declared.past.Past.{Past}
 use Rattle.history.specs.declared.past.Past.TheVariants.{Publish}
 use Rattle.history.specs.Entries.{History, imports, own, newest, upto_of}
 use Rattle.history.specs.Legality.{Marks, marks, marked, start, ArePublishedFrom, IsLegal}
 use Rattle.history.proofs.Entries.{Grows, marks_grow, marks_from-append, count_from, published-front, published-rest, front-refl, front-trans, front-length}
-use Rattle.std.specs.Prelude.{Option, Result, Ok, Err}
+use Rattle.std.specs.Prelude.{Option, None, Result, Ok, Err}
 use Rattle.std.specs.List.{list_any}
 use Rattle.osv_prim.specs.declared.memory.Memory.{Memory}
 use Rattle.book_model.specs.State.{Build, is_out, cells_in, published}
-use Rattle.book_model.specs.Jobs.{JobName}
-use Rattle.book_model.specs.Desk.{Caller, saturating_sum}
+use Rattle.book_model.specs.Desk.{Caller, IsKnown, saturating_sum}
 use Rattle.book_model.proofs.Owned.{some_of}
 use Rattle.snapshot.specs.declared.job.Job.{Job}
-use Rattle.snapshot.specs.declared.job.Finished.{Finished}
-use Rattle.snapshot.specs.declared.job.Finished.TheVariants as finished
-use Rattle.snapshot.specs.Jobs.{name, outcome}
+use Rattle.snapshot.specs.Jobs.{name}
 use Rattle.session_model.specs.declared.sign.Sign.{Sign}
 use Rattle.session_model.specs.declared.sign.Sign.TheVariants as signs
 use Rattle.session_model.specs.Alone.{IsAlone, StaysApart, with_all, PublishesAlone}
@@ -27,9 +25,9 @@ use Rattle.session_model.specs.Runs.{Goes}
 use Rattle.session_model.proofs.Runs.{goes-then}
 use Rattle.session_model.proofs.Apart.{apart-refl, apart-then}
 use Rattle.session_model.proofs.Counting.{rises-then, rises-less}
-use Rattle.desk_calls.specs.Alone.{Begun, turns_at, build_at, front_at, build_over}
+use Rattle.desk_calls.specs.Alone.{Begun, ArePlanned, most_alone, build_at, front_at, build_over}
 use Rattle.desk_calls.specs.Calls.{Still, Counted, Reached, AreOut, Given, HandedIn, HandedBack, Publishes}
-use Rattle.desk_calls.specs.Publishing.{Worked, EndsPublishing, SoFarPublished, Going, PublishedBy, PublishedAlone}
+use Rattle.desk_calls.specs.Publishing.{Worked, HandedOver, EndsPublishing, SoFarPublished, Going, PublishedBy, PublishedAlone}
 use Rattle.desk_calls.proofs.Alone.{if-some, same-front, apart, only-own-then, builds-behind}
 use Rattle.desk_calls.proofs.Stages.{few-turns, free-at, same-at, next-stage, one-or-none, all-published}
 
@@ -117,14 +115,16 @@ few-so-far me goal h now p = record { begins = p.begins; added = p.added; mine =
 
 -- ---- turns
 
-pub going-start : (c : Caller) (goal : ℕ) → goal ≤ length (imports c.front) → Goes c c → Rises 0 0 0 c c → Going c goal 0 c
-going-start c goal came g r = record {
+pub going-start : (c : Caller) (goal : ℕ) → goal ≤ length (imports c.front) → IsKnown c → Goes c c → Rises 0 0 0 c c → Going c goal 0 c
+going-start c goal came known g r = record {
   goes = g;
   so_far = published-start c.me goal c.front came;
   rises = r;
   outs = refl;
   apart = apart-refl c;
-  stage = λ alone all. record { stage = Begun; took_is = refl; there = record { build = alone; front = refl; mine = refl; needed = tt } };
+  stage = λ alone all.
+      let limit : c.settings.weight ≤ MAX_WEIGHT = some_of (λ (b : Option Build). c.settings.weight ≤ MAX_WEIGHT) c.alone None alone known.limit in
+      record { light = omega (arith, known.within, limit); stage = Begun; may = refl; there = record { build = alone; front = refl; mine = refl; needed = tt } };
 }
 
 still-so-far : (old mid new : Caller) (goal took : ℕ) → Going old goal took mid → Still mid new → SoFarPublished old.me goal old.front new.front
@@ -159,7 +159,7 @@ stopped old mid new goal took p s = (
 pub stopped-alone : (old mid new : Caller) (goal took : ℕ) (e : Memory) → Going old goal took mid → Still mid new → IsAlone old → goal ≡ length (imports old.front) → PublishedAlone old (Err e) new
 stopped-alone old mid new goal took e p s alone all =
     let k = p.stage alone all in
-    one-or-none k.stage old.me old.front new k.there.needed (same-at k.stage old.me old.front mid new k.there s ∙ k.there.front)
+    one-or-none k.stage old.me old.front new k.there.needed (same-at k.stage took old.me old.front mid new k.may k.there s ∙ k.there.front)
 
 pub reached-ends : (old mid new : Caller) (goal took snapshot upto : ℕ) → Going old goal took mid → Reached mid goal snapshot upto new
     → PublishedBy old goal (Ok (signs.Published snapshot upto)) new
@@ -178,7 +178,7 @@ pub reached-alone : (old mid new : Caller) (goal took snapshot upto : ℕ) → G
     → PublishedAlone old (Ok (signs.Published snapshot upto)) new
 reached-alone old mid new goal took snapshot upto p r alone all =
     let k = p.stage alone all in
-    let now : new.front ≡ front_at k.stage old.me old.front = same-at k.stage old.me old.front mid new k.there r.quiet.still ∙ k.there.front in
+    let now : new.front ≡ front_at k.stage old.me old.front = same-at k.stage took old.me old.front mid new k.may k.there r.quiet.still ∙ k.there.front in
     let is : upto ≡ upto_of new.front (newest new.front) = r.upto_is ∙ ap (λ (n : ℕ). upto_of new.front n) r.snapshot_is in
     let enough : length (imports old.front) ≤ published new.front = omega (arith, all, is, r.reaches) in
     let ended = all-published k.stage old.me old.front mid new enough k.there r.quiet.alone now in
@@ -200,7 +200,7 @@ out-ends old mid new goal took out few p r =
 pub never-out : (old mid new : Caller) (goal took out : ℕ) → Going old goal took mid → AreOut mid out new → IsAlone old → goal ≡ length (imports old.front) → ⊥
 never-out old mid new goal took out p r alone all =
     let k = p.stage alone all in
-    some_of (λ (b : Option Build). list_any is_out (cells_in b) ≢ false) mid.alone (build_at k.stage old.front) k.there.build r.mine (free-at k.stage old.front)
+    some_of (λ (b : Option Build). list_any is_out (cells_in b) ≢ false) mid.alone (build_at k.stage old.front) k.there.build r.mine (free-at k.stage old.front took k.may)
 
 pub all-taken : (old now : Caller) (goal took : ℕ) → took ≤ most_turns → most_turns ≤ took → Going old goal took now
     → PublishedBy old goal (Ok (signs.Building 0 took)) now
@@ -216,8 +216,8 @@ all-taken old now goal took few all p =
 pub never-taken : (old now : Caller) (goal took : ℕ) → most_turns ≤ took → Going old goal took now → IsAlone old → goal ≡ length (imports old.front) → ⊥
 never-taken old now goal took many p alone all =
     let k = p.stage alone all in
-    let few : turns_at k.stage ≤ 2 = few-turns k.stage in
-    omega (arith, many, few, k.took_is)
+    let few : took ≤ most_alone = few-turns k.stage took k.may in
+    omega (arith, many, few)
 
 -- ---- behind the call that says how many imports there are
 
@@ -279,10 +279,6 @@ alone-behind old mid new count r k f alone =
 
 -- ---- a job
 
-pub no-pieces : (f : Finished) (job : JobName) (old new : Caller) → (outcome f).job ≡ job → HandedIn (outcome f).job (outcome f).cells old new → HandedIn job [] old new
-no-pieces (finished.Plan build plan) job old new e h = subst (λ (j : JobName). HandedIn j [] old new) e h
-no-pieces (finished.Assemble build snapshot) job old new e h = subst (λ (j : JobName). HandedIn j [] old new) e h
-
 nothing-then : (me : ℕ) (h mid now : History) → AddsNothing me h mid → AddsNothing me mid now → AddsNothing me h now
 nothing-then me h mid now p q = record { begins = front-trans h mid now p.begins q.begins; mine = q.mine ∙ p.mine }
 
@@ -302,8 +298,9 @@ publishes-behind old mid new me p (inr a) =
       },
     )
 
-pub worked : (old mid new : Caller) (goal : ℕ) (job : Job) → Given old goal job mid → HandedIn (name job) [] mid new → Worked old goal new
-worked old mid new goal job p h =
+pub worked : (old mid new : Caller) (goal : ℕ) (job : Job) → Given old goal job mid → HandedOver (name job) mid new → Worked old goal new
+worked old mid new goal job p over =
+    let h : HandedIn (name job) over.cells mid new = over.handed in
     let both = rises-then old mid 0 0 1 new 0 1 1 p.passes.rises h.rises in
     let later = (marks-later old.front mid.front p.passes.none.begins p.passes.goes.legal.published).last in
     let me : mid.me ≡ old.me = p.passes.goes.me in
@@ -317,7 +314,14 @@ worked old mid new goal job p h =
       builds = λ build e free.
           let b : Build = build_over old.front build in
           let j = p.hands_out build e free in
-          ((name job).number, builds-behind b.phase b (name job).number [] old mid new j.1 me (h.comes_in b j.0).0);
+          let first = (name job).number in
+          record {
+            number = first;
+            cells = over.cells;
+            first = j.0.first;
+            planned = subst (λ (x : History). ArePlanned over.cells x) j.1 over.planned;
+            builds = builds-behind b.phase b first over.cells old mid new j.1 me (h.comes_in b j.0).0;
+          };
     }
 
 -- the job that came out was handed back

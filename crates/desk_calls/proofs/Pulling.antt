@@ -69,6 +69,7 @@ hands-out goal job old new v build e free =
             ∙ ap (λ (x : Option Build). owner_in x (newest v.left.history + 1) (name job)) (sym built)
             ∙ held ∙ ap (λ (by : ℕ). Some by) (sym v.me);
         free = none-out-over old.front build free;
+        first = g.free;
       },
       v.front ∙ ap (λ (s : State). s.history) g.left ∙ f.1,
     )

@@ -1,10 +1,11 @@
 -- A publication, turn by turn (our own).
-use Rattle.std.specs.Prelude.{◌≡◌, ◌⊎◌, ℕ, ◌≤◌, ◌<◌, List, [], ◌++◌, length, Result, Ok, Err}
+use Rattle.std.specs.Prelude.{◌≡◌, ◌⊎◌, ℕ, ◌≤◌, ◌<◌, List, ◌++◌, length, Result, Ok, Err}
 use mathlib.Core.List.{IsPrefix}
 use Rattle.osv_prim.specs.declared.memory.Memory.{Memory}
 use Rattle.history.specs.declared.past.Past.{Past}
 use Rattle.history.specs.Entries.{History, imports, newest, upto_of, own}
 use Rattle.history.specs.Legality.{marks}
+use Rattle.book_model.specs.State.{Cell}
 use Rattle.book_model.specs.Jobs.{JobName}
 use Rattle.book_model.specs.Desk.{Caller}
 use Rattle.session_model.specs.declared.sign.Sign.{Sign}
@@ -13,7 +14,7 @@ use Rattle.session_model.specs.Alone.{IsAlone, StaysApart, with_all, PublishesAl
 use Rattle.session_model.specs.Answers.{ArePublications, IsStillBuilding, PublishesFew}
 use Rattle.session_model.specs.Counts.{Rises, Counts, OutsAre}
 use Rattle.session_model.specs.Runs.{Goes}
-use Rattle.desk_calls.specs.Alone.{TurnsBuild, IsAfter}
+use Rattle.desk_calls.specs.Alone.{ArePlanned, TurnsBuild, IsAfter}
 use Rattle.desk_calls.specs.Calls.{Still, Reached, AreOut, Publishes, HandedIn, HandedBack}
 use Rattle.desk_calls.specs.declared.turns.Turned.{Turned}
 use Rattle.desk_calls.specs.declared.turns.Turned.TheVariants as turned
@@ -42,9 +43,15 @@ EndsPublishing old goal (signs.Published snapshot upto) new =
     (snapshot ≤ newest new.front) × (upto_of new.front snapshot ≡ upto) × (goal ≤ upto) × PublishesFew old.me old.front new.front
 EndsPublishing old goal (signs.Building out took) new = IsStillBuilding out took × PublishesFew old.me old.front new.front
 
--- a job was done, of which a plan gives no pieces, or handed back
+-- a job was done, which of a plan gave such pieces
+pub record HandedOver (job : JobName) (old new : Caller) : Type 0 where
+  pub cells : List Cell
+  pub planned : ArePlanned cells old.front
+  pub handed : HandedIn job cells old new
+
+-- a job was done, or handed back
 abbrev pub WorkIs : {U : Type 0} → JobName → Caller → Result U Memory → Caller → Type 0
-WorkIs job old (Ok done) new = HandedIn job [] old new
+WorkIs job old (Ok done) new = HandedOver job old new
 WorkIs job old (Err e) new = HandedBack job old new
 
 abbrev pub TurnIs : Caller → ℕ → Result Turned Memory → Caller → Type 0

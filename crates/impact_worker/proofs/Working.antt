@@ -29,7 +29,8 @@ use Rattle.session_model.specs.Counts.{Rises}
 use Rattle.session_model.proofs.Runs.{goes-refl, goes-then}
 use Rattle.session_model.proofs.Apart.{apart-refl, apart-then}
 use Rattle.session_model.proofs.Counting.{rises-none, rises-then, rises-less}
-use Rattle.desk_calls.specs.Calls.{Still, Given, HandedIn, HandedBack, Publishes}
+use Rattle.desk_calls.specs.Calls.{Still, Given, HandedBack, Publishes}
+use Rattle.desk_calls.specs.Publishing.{HandedOver}
 use Rattle.desk_calls.proofs.Alone.{finds, leaves, no-job}
 use Rattle.desk_calls.proofs.Events.{still, turned-up, quiet}
 use Rattle.desk_calls.proofs.Pulling.{pulled-is}
@@ -214,11 +215,11 @@ taken-is (Err memory) old new v k =
 
 -- ---- a job is done
 
-pub did-one : (old mid new : Caller) (job : Job) → TakenIs old (Ok (taken.Job job)) mid → HandedIn (name job) [] mid new → CountsTurn mid new → Works 1 old new
+pub did-one : (old mid new : Caller) (job : Job) → TakenIs old (Ok (taken.Job job)) mid → HandedOver (name job) mid new → CountsTurn mid new → Works 1 old new
 did-one old mid new job t h k =
     let g : Given old t.0.0 job mid = t.0.1 in
     let w = worked old mid new t.0.0 job g h in
-    let both = rises-then old mid 0 0 1 new 0 1 1 g.passes.rises h.rises in
+    let both = rises-then old mid 0 0 1 new 0 1 1 g.passes.rises h.handed.rises in
     let before : mid.turns ≡ old.turns = t.1.turns in
     let behind : new.turns ≡ saturating_next mid.turns = k.turns in
     record {

@@ -9,7 +9,7 @@ use Rattle.desk_calls.proofs.turns.publish_to.Goals as goal
 pub loop-took-init : goal.loop-took-init
 loop-took-init g c =
     let old = g.D.Desk.caller c.args.desk.now in
-    record { going = going-start old c.args.goal c.requires (goes-refl old c.point-known.ensures.known.legal) (rises-none old); within = omega arith }
+    record { going = going-start old c.args.goal c.requires c.point-known.ensures.known (goes-refl old c.point-known.ensures.known.legal) (rises-none old); within = omega arith }
 
 pub one_turn-requires : goal.one_turn-requires
 one_turn-requires g c = (search rules, c.loop-took.invariant.going.so_far.goal_came)

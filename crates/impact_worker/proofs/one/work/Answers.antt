@@ -1,0 +1,15 @@
+use Rattle.std.proofs.Common.{subst}
+use Rattle.book_model.specs.Jobs.{JobName}
+use Rattle.snapshot.specs.Jobs.{outcome}
+use Rattle.desk_calls.specs.Calls.{HandedIn}
+use Rattle.desk_calls.proofs.Pieces.{planned-few}
+use Rattle.impact_worker.proofs.one.work.Goals as goal
+
+pub returns-in-Ok-clause-work : goal.returns-in-Ok-clause-work
+returns-in-Ok-clause-work g c =
+    let old = g.D.Desk.caller c.args.desk.now in
+    record {
+      cells = (outcome c.in-Ok.finished).cells;
+      planned = planned-few c.in-Ok.finished old.front (c.in-Ok.ensures.holds old.front c.requires);
+      handed = subst (λ (j : JobName). HandedIn j (outcome c.in-Ok.finished).cells old (g.D.Desk.caller c.finish_of.new.desk)) c.in-Ok.ensures.same c.finish_of.ensures.handed;
+    }
