@@ -33,10 +33,16 @@ pub struct Log {
     random: Random,
 }
 
-// An advisory of one of 60 ids, each of which has four texts.
+const RANGES: &str = concat!(
+    r#"{"type":"GIT","repo":"https://e.example/r","events":[{"introduced":"0"}]},"#,
+    r#"{"type":"GIT","repo":"https://e.example/s","events":[{"introduced":"0"}]}"#,
+);
+
+// An advisory of one of 60 ids, each of which has four texts. One in four ids has two GIT ranges.
 fn advisory(alloc: Global, id: u64, version: u64) -> Result<Arc<Record>, Memory> {
+    let ranges = if id % 4 == 0 { RANGES } else { "" };
     let json = format!(in alloc;
-        r#"{{"id":"X-{id}","modified":"2024-01-01T00:00:00Z","affected":[{{"package":{{"ecosystem":"npm","name":"p"}},"versions":["{version}.0.0"]}}]}}"#
+        r#"{{"id":"X-{id}","modified":"2024-01-01T00:00:00Z","affected":[{{"package":{{"ecosystem":"npm","name":"p"}},"ranges":[{ranges}],"versions":["{version}.0.0"]}}]}}"#
     )?;
     match Record::read(alloc, json.as_bytes()) {
         Ok(advisory) => Ok(Arc::new(alloc, advisory)?),

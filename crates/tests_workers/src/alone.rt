@@ -1,6 +1,6 @@
 // A caller alone with its book.
 
-use crate::build::{import_one, newest, open, open_and_keep};
+use crate::build::{import_one, import_ranges, newest, open, open_and_keep};
 use book_desk::Desk;
 use desks::OwnDesk;
 use gate::OpenGate;
@@ -27,6 +27,25 @@ fn import_all<D: Desk>(alloc: Global, desk: &mut D, count: u64) -> Result<(), Me
     Ok(())
 }
 
+// Opens a build and drains by each of the numbers.
+fn drain_each<L: Ledger>(
+    alloc: Global,
+    desk: &mut OwnDesk,
+    numbers: &str,
+    steps: &mut Steps<L>,
+) -> Result<String, Memory> {
+    open(desk)?;
+    let mut text = String::from_str(alloc, "did")?;
+    for number in numbers.split(' ') {
+        let most = number.parse().unwrap_or(0);
+        let drained = drain(alloc, desk, &OpenGate, most, steps);
+        push_told(alloc, &mut text, drained)?;
+    }
+    let number = newest(alloc, desk)?;
+    let done = text.as_str();
+    Ok(format!(in alloc; "{done} snapshot {number}")?)
+}
+
 /// Drains by each of the numbers, the first of which is how many advisories are imported before.
 pub fn drained<L: Ledger>(
     alloc: Global,
@@ -36,16 +55,19 @@ pub fn drained<L: Ledger>(
     let mut desk = OwnDesk::new(alloc, Settings::default())?;
     let (count, numbers) = numbers.split_once(' ').unwrap_or((numbers, ""));
     import_all(alloc, &mut desk, count.parse().unwrap_or(0))?;
-    open(&mut desk)?;
-    let mut text = String::from_str(alloc, "did")?;
-    for number in numbers.split(' ') {
-        let most = number.parse().unwrap_or(0);
-        let drained = drain(alloc, &mut desk, &OpenGate, most, steps);
-        push_told(alloc, &mut text, drained)?;
-    }
-    let number = newest(alloc, &mut desk)?;
-    let done = text.as_str();
-    Ok(format!(in alloc; "{done} snapshot {number}")?)
+    drain_each(alloc, &mut desk, numbers, steps)
+}
+
+/// The same, where the first is how many GIT ranges the one advisory has that is imported before.
+pub fn pieces<L: Ledger>(
+    alloc: Global,
+    numbers: &str,
+    steps: &mut Steps<L>,
+) -> Result<String, Memory> {
+    let mut desk = OwnDesk::new(alloc, Settings::default())?;
+    let (count, numbers) = numbers.split_once(' ').unwrap_or((numbers, ""));
+    import_ranges(alloc, &mut desk, count.parse().unwrap_or(0))?;
+    drain_each(alloc, &mut desk, numbers, steps)
 }
 
 /// Drains while the caller has a job of the build that is open.

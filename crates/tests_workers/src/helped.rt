@@ -18,7 +18,8 @@ use turn_lock::TurnLock;
 /// The most looks at which the newest snapshot may be another than the one that is waited for.
 const MOST_LOOKS: u64 = 10_000_000;
 
-fn opened(alloc: Global) -> Result<(TurnLock<Book>, BookPass), Memory>
+/// A lock over a book with no entry, and a pass.
+pub fn opened(alloc: Global) -> Result<(TurnLock<Book>, BookPass), Memory>
     ensures { IfOk result (λ r. r.1.lock ≡ r.0) }
 {
     let book = Book::new(alloc, Settings::default())?;

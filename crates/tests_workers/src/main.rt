@@ -9,9 +9,11 @@ ghost use Rattle.std.specs.Prelude.{◌≡◌, ◌≤◌};
 mod alone;
 mod build;
 mod helped;
+mod shared;
 
-use crate::alone::{drained, held};
+use crate::alone::{drained, held, pieces};
 use crate::helped::helped;
+use crate::shared::shared;
 use osv_prim::{Ledger, Memory, Steps, Unkept};
 use std::alloc::AllocError;
 use std::io;
@@ -33,8 +35,10 @@ fn answer<R: Threads + Wait + Sync, L: Ledger + Send>(
     let (case, rest) = line.split_once(' ').unwrap_or((line, ""));
     match case {
         "alone" => drained(alloc, rest, steps),
+        "pieces" => pieces(alloc, rest, steps),
         "held" => held(alloc, rest.parse().unwrap_or(0), steps),
         "helped" => helped(rt, alloc, rest.parse().unwrap_or(0), steps),
+        "shared" => shared(host, rt, rest.parse().unwrap_or(0), steps),
         _ => Ok(String::from_str(alloc, "no case")?),
     }
 }
