@@ -1,23 +1,10 @@
 -- The pieces of a plan, one after another.
-use Rattle.std.proofs.Common.{◌≡◌, ℕ, zero, suc, ◌+◌, ◌<◌, List, [], ◌∷◌, ◌++◌, length, map, take, get_or, Option, Some, None, refl, ap, sym, subst, ◌∙◌, arith}
+use Rattle.std.proofs.Common.{◌≡◌, ℕ, zero, suc, ◌+◌, ◌<◌, List, [], ◌∷◌, ◌++◌, length, map, take, get_or, Some, refl, ap, ◌∙◌, arith}
 use Rattle.std.specs.Prelude.{slice_get}
 use Rattle.std.specs.List.{AllZip}
-use Rattle.std.specs.declared.sync.Arc.{Arc}
-use Rattle.impact_set.specs.Standing.{Known}
 use Rattle.impact_job.specs.declared.tables.Todo.{Todo}
-use Rattle.impact_job.specs.declared.tables.Todo.TheVariants.{Carried, Piece}
-use Rattle.impact_job.specs.Tables.{HasSet}
 use Rattle.snapshot.specs.declared.job.Place.{Place}
-use Rattle.snapshot.specs.declared.job.Place.TheVariants as places
 use Rattle.snapshot.specs.Jobs.{planned_place}
-
-pub carried-none : {Z : Type 0} (t : Todo) → places.Carried ≡ planned_place t → HasSet {Z = Z} t None
-carried-none (Carried set) e = tt
-carried-none (Piece piece) e = absurd cc
-
-pub has-made : {Z : Type 0} (t : Todo) (s : Arc Known Z) → HasSet t (Some s)
-has-made (Carried set) s = tt
-has-made (Piece piece) s = refl
 
 -- what a plan has where a place stands
 pub record TodoAt (todo : List Todo) (i : ℕ) (place : Place) : Type 0 where
