@@ -4,7 +4,7 @@ use Rattle.std.specs.Prelude.{slice_get, MatchOption}
 use Rattle.std.specs.List.{AllZip, list_any}
 use Rattle.history.specs.declared.past.Past.{Past}
 use Rattle.history.specs.Entries.{History, imports, snap}
-use Rattle.book_model.specs.State.{Cell, is_out}
+use Rattle.book_model.specs.State.{is_out}
 use Rattle.book_model.specs.Jobs.{JobName, StandsIn, JobHolds, FinishedHolds}
 use Rattle.impact_job.specs.declared.tables.Todo.{Todo}
 use Rattle.impact_job.specs.declared.tables.Todo.TheVariants.{Carried, Piece}

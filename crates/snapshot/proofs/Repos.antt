@@ -1,20 +1,18 @@
 -- A hit of a commit has a GIT range on a repository that has the commit.
-use Rattle.std.proofs.Common.{◌≡◌, ℕ, Bool, true, false, cond, ◌&&◌, ◌||◌, not, inl, inr, List, [], ◌∷◌, ◌++◌, map, Option, Some, None, bytes_eq, refl, sym, ap, ◌∙◌}
+use Rattle.std.proofs.Common.{◌≡◌, ℕ, Bool, true, false, cond, ◌||◌, not, inl, inr, List, [], ◌∷◌, ◌++◌, Option, Some, None, bytes_eq, refl, sym, ap, ◌∙◌}
 use Rattle.std.specs.Prelude.{is_some}
 use Rattle.std.specs.List.{list_any}
 use Rattle.std.specs.Option.{option_map_or}
-use Rattle.std.proofs.lemmas.Bool.{and_parts, or_cases, or_left, or_right, false≢true, cases_Bool}
+use Rattle.std.proofs.lemmas.Bool.{and_parts, or_cases, or_left, or_right, false≢true}
 use Rattle.std.proofs.lemmas.Slice.Eq.{bytes_eq-Decides}
-use Rattle.std.proofs.lemmas.List.Folds.{list_any-append}
 use Rattle.osv_prim.specs.declared.package.PackageKey.{PackageKey}
-use Rattle.osv_prim.specs.declared.oid.CommitRow.{CommitRow}
 use Rattle.osv_prim.specs.declared.event.Event.{Event}
 use Rattle.osv_prim.specs.Graphs as of_rows
 use Rattle.osv_prim.specs.Graphs.{number_of}
 use Rattle.osv_record.specs.Advisories.{Advisory, Entry, Extent}
 use Rattle.git_range.specs.Affected.{is_affected}
 use Rattle.evaluate.specs.Hits.{Repo, graph_of, affects_commit, git_range_hit, git_entry_hit, git_hit, is_of_package}
-use Rattle.repo_index.specs.Listing.{is_on, has_on, has_on_any}
+use Rattle.repo_index.specs.Listing.{is_on, has_on_any}
 use Rattle.set_hits.specs.Places.{Place, places_of, with_place}
 use Rattle.set_hits.proofs.Hitting.{has_number}
 use Rattle.snapshot.specs.Subjects.{is_commit_hit, repos_at}

@@ -1,8 +1,7 @@
 -- Members of two lists at one place.
-use Rattle.std.proofs.Common.{◌≡◌, ℕ, zero, suc, List, [], ◌∷◌, Option, Some, None, sym, ap, subst, ◌∙◌}
-use Rattle.std.specs.Prelude.{slice_get}
+use Rattle.std.proofs.Common.{◌≡◌, ℕ, zero, suc, ◌<◌, length, get_or, arith, List, [], ◌∷◌, Option, Some, None, sym, ap, subst}
+use Rattle.std.specs.Prelude.{IfSome, option_map, slice_get}
 use Rattle.std.specs.List.{AllZip}
-use Rattle.std.proofs.lemmas.Option.{slice_get_within}
 
 module _ {A B : Type 0} (R : A → B → Type 0) where
   pub at-both : (xs : List A) (ys : List B) (i : ℕ) (x : A) (y : B) → AllZip R xs ys → slice_get xs i ≡ Some x → slice_get ys i ≡ Some y → R x y
@@ -19,3 +18,19 @@ module _ {A B : Type 0} (R : A → B → Type 0) where
   none-at (a ∷ xs) [] i x all first second = all
   none-at (a ∷ xs) (b ∷ ys) zero x all first second = cc
   none-at (a ∷ xs) (b ∷ ys) (suc i) x all first second = none-at xs ys i x all.1 first second
+
+  -- the member of the second list, where it is there
+  pub some-both : {V : Type 0} (see : V → B) (xs : List A) (ys : List B) (i : ℕ) (x : A) (o : Option V) → AllZip R xs ys → slice_get xs i ≡ Some x → option_map see o ≡ slice_get ys i → IfSome o (λ v. R x (see v))
+  some-both see xs ys i x None all at same = tt
+  some-both see xs ys i x (Some v) all at same = at-both xs ys i x (see v) all at (sym same)
+
+-- a member by its place
+pub there : {X : Type 0} (xs : List X) (i : ℕ) (x : X) → i < length xs → x ≡ get_or xs i x → slice_get xs i ≡ Some x
+there [] i x lt is = absurd (omega (arith, lt))
+there (y ∷ xs) zero x lt is = ap Some (sym is)
+there (y ∷ xs) (suc i) x lt is = there xs i x (omega (arith, lt)) is
+
+pub within : {X : Type 0} (xs : List X) (i : ℕ) (x : X) → slice_get xs i ≡ Some x → i < length xs
+within [] i x at = absurd cc
+within (y ∷ xs) zero x at = omega arith
+within (y ∷ xs) (suc i) x at = omega (arith, within xs i x at)

@@ -13,6 +13,7 @@ mod job;
 pub mod laws;
 mod packages;
 mod page;
+mod ranges;
 mod snapshot;
 mod work;
 

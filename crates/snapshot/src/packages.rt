@@ -1,4 +1,4 @@
-ghost use Rattle.std.specs.Prelude.{◌≡◌, ℕ, ◌+◌, ◌<◌, ◌≤◌, All, IfOk, filter, length, map, nat_le, nat_lt, option_map, slice_get, slice_index_or};
+ghost use Rattle.std.specs.Prelude.{◌≡◌, ℕ, List, ◌+◌, ◌<◌, ◌≤◌, All, IfOk, filter, length, map, nat_le, nat_lt, option_map, slice_get, slice_index_or};
 ghost use Rattle.std.specs.Arc.{arc_value};
 ghost use Rattle.std.specs.List.Sorted.{IsPartitionedBy, IsPartitionPoint, IsStrictlySortedBy};
 ghost use Rattle.std.specs.Ordering.{nat_cmp};
@@ -7,29 +7,42 @@ ghost use Rattle.osv_prim.specs.declared.package.PackageKey.{PackageKey as Key};
 ghost use Rattle.osv_record.specs.Advisories.{Advisory};
 ghost use Rattle.package_index.specs.Index.{found};
 ghost use Rattle.package_index.specs.Listing.{listed};
+ghost use Rattle.record_moves.specs.Moved.{IsMoved};
+ghost use Rattle.evaluate.specs.Hits.{version_hit};
+ghost use Rattle.range_hits.specs.Forms.{AreFormsOf};
+ghost use Rattle.snapshot.specs.Ranges.{AreCompiled, IsKeysOf};
 ghost use Rattle.snapshot.specs.Pages.{cut, page_seen};
 ghost use Rattle.snapshot.specs.Subjects.{is_package_hit};
 
 use crate::page::Page;
+use crate::ranges::ranges_at;
 use evaluate::version_hit;
-use osv_prim::{Ledger, Memory, PackageKey, Steps, Text};
+use osv_prim::{Ledger, List, Memory, PackageKey, Steps, Text};
 use osv_record::Record;
 use package_index::PackageIndex;
+use range_hits::{AskedVersion, CompiledRange};
+use record_moves::Moves;
 use std::alloc::Global;
 use std::sync::Arc;
 
 // Indexes of advisories have 32 bits.
 pub(crate) const INDEXES: usize = 1 << 32;
 
-/// Which advisories have an entry of each package. It is refused, as for want of memory, where there are
-/// 2^32 advisories.
-pub(crate) fn index_of(alloc: Global, records: &[Arc<Record>]) -> Result<PackageIndex, Memory>
-    ensures { IfOk result (λ index. (asked : Key) → found index asked ≡ listed (map (λ a. arc_value a) records.now) asked) }
+/// Which advisories have an entry of each package, from the index of the list before and where its advisories
+/// are in this one. It is refused, as for want of memory, where there are 2^32 advisories.
+pub(crate) fn renewed_index(
+    alloc: Global,
+    records: &[Arc<Record>],
+    base: &PackageIndex,
+    moves: &Moves,
+) -> Result<PackageIndex, Memory>
+    ensures { (old : List Advisory) → IsMoved moves.now old (map (λ a. arc_value a) records.now) → ((asked : Key) → found base.now asked ≡ listed old asked)
+        → IfOk result (λ index. (asked : Key) → found index asked ≡ listed (map (λ a. arc_value a) records.now) asked) }
 {
     if records.len() >= INDEXES {
         return Err(Memory);
     }
-    PackageIndex::build(alloc, records)
+    base.renew(alloc, records, moves)
 }
 
 /// Of indexes that ascend, those from this one on, by O(log n) comparisons.
@@ -61,13 +74,15 @@ pub(crate) fn as_text(version: &Option<Text>) -> Option<&str>
 pub(crate) fn first_package_hits<L: Ledger>(
     alloc: Global,
     records: &[Arc<Record>],
+    ranges: &[Arc<List<CompiledRange>>],
     indexes: &[u32],
     asked: &PackageKey,
     version: Option<&str>,
+    keys: &Option<AskedVersion>,
     size: u32,
     steps: &mut Steps<L>,
 ) -> Result<Page, Memory>
-    ensures page { (none : Advisory) → All (λ i. i < length records.now) indexes.now → IfOk result (λ page. page_seen page ≡ cut size (filter (is_package_hit asked.now (option_map (λ t. t.now) version.entry)) (map (λ i. slice_index_or (map (λ a. arc_value a) records.now) i none) indexes.now))) }
+    ensures page { (none : Advisory) → AreCompiled (map (λ a. arc_value a) records.now) ranges.now → IsKeysOf keys.now (option_map (λ t. t.now) version.entry) → All (λ i. i < length records.now) indexes.now → IfOk result (λ page. page_seen page ≡ cut size (filter (is_package_hit asked.now (option_map (λ t. t.now) version.entry)) (map (λ i. slice_index_or (map (λ a. arc_value a) records.now) i none) indexes.now))) }
     ensures graph { steps.new.graph ≡ steps.old.graph }
     ensures records { steps.new.record_count ≤ steps.old.record_count + length indexes.now }
 {
@@ -76,7 +91,8 @@ pub(crate) fn first_package_hits<L: Ledger>(
         let Some(advisory) = advisory_at(records, *index) else {
             continue;
         };
-        if !is_package_hit(alloc, advisory, asked, version, steps)? {
+        let forms = ranges_at(ranges, *index);
+        if !is_package_hit(alloc, advisory, forms, asked, version, keys, steps)? {
             continue;
         }
         if found.len() >= size as usize {
@@ -94,16 +110,18 @@ pub(crate) fn advisory_at(records: &[Arc<Record>], index: u32) -> Option<&Arc<Re
     records.get(index as usize)
 }
 
-// Whether an advisory that isn't withdrawn affects a package, in the version where one is asked for. It
-// counts as one read of it.
+// Whether an advisory that isn't withdrawn affects a package, in the version where one is asked for, by the
+// forms of its ranges. It counts as one read of it.
 fn is_package_hit<L: Ledger>(
     alloc: Global,
     advisory: &Record,
+    forms: &[CompiledRange],
     asked: &PackageKey,
     version: Option<&str>,
+    keys: &Option<AskedVersion>,
     steps: &mut Steps<L>,
 ) -> Result<bool, Memory>
-    ensures hit { IfOk result (λ b. b ≡ is_package_hit asked.now (option_map (λ t. t.now) version.entry) advisory.now) }
+    ensures hit { AreFormsOf advisory.now forms.now → IsKeysOf keys.now (option_map (λ t. t.now) version.entry) → IfOk result (λ b. b ≡ is_package_hit asked.now (option_map (λ t. t.now) version.entry) advisory.now) }
     ensures graph { steps.new.graph ≡ steps.old.graph }
     ensures records { steps.new.record_count ≡ steps.old.record_count + 1 }
 {
@@ -111,5 +129,24 @@ fn is_package_hit<L: Ledger>(
     if advisory.withdrawn {
         return Ok(false);
     }
-    version_hit(alloc, advisory, asked, version)
+    affects(alloc, advisory, forms, asked, version, keys)
+}
+
+fn affects(
+    alloc: Global,
+    advisory: &Record,
+    forms: &[CompiledRange],
+    asked: &PackageKey,
+    version: Option<&str>,
+    keys: &Option<AskedVersion>,
+) -> Result<bool, Memory>
+    ensures { AreFormsOf advisory.now forms.now → IsKeysOf keys.now (option_map (λ t. t.now) version.entry) → IfOk result (λ b. b ≡ version_hit advisory.now asked.now (option_map (λ t. t.now) version.entry)) }
+{
+    match version {
+        None => version_hit(alloc, advisory, asked, None),
+        Some(text) => match keys {
+            Some(keys) => Ok(range_hits::version_hit(advisory, forms, asked, text, keys)),
+            None => version_hit(alloc, advisory, asked, Some(text)),
+        },
+    }
 }

@@ -7,6 +7,7 @@ ghost use Rattle.history.specs.Lookups.{record_of};
 ghost use Rattle.osv_prim.specs.declared.package.PackageKey.{PackageKey as Key};
 ghost use Rattle.osv_record.specs.Advisories.{Advisory};
 ghost use Rattle.package_index.specs.Listing.{listed};
+ghost use Rattle.record_moves.specs.Moved.{IsMoved};
 ghost use Rattle.impact_job.specs.Tables as tables;
 ghost use Rattle.impact_job.specs.Order.{Ascend};
 ghost use Rattle.snapshot.specs.Snapshots.{StandsFor, snapshot_upto};
@@ -14,13 +15,16 @@ ghost use Rattle.snapshot.specs.Pages.{is_above, cut, page, page_seen};
 ghost use Rattle.snapshot.specs.Subjects.{is_package_hit, is_commit_hit, listed_for_commit};
 
 use crate::commits::{first_commit_hits, repo_index_of};
-use crate::packages::{as_text, first_package_hits, from_index, index_of};
+use crate::packages::{as_text, first_package_hits, from_index, renewed_index};
 use crate::page::Page;
+use crate::ranges::{read_version, renewed_ranges};
 use id_index::IdIndex;
 use impact_job::{Tables, split_at_id};
-use osv_prim::{Id, Ledger, Memory, Oid, PackageKey, Steps, Subject};
+use osv_prim::{Id, Ledger, List, Memory, Oid, PackageKey, Steps, Subject};
 use osv_record::Record;
 use package_index::PackageIndex;
+use range_hits::CompiledRange;
+use record_moves::Moves;
 use repo_index::RepoIndex;
 use set_hits::places_of;
 use std::alloc::Global;
@@ -34,6 +38,8 @@ pub struct Snapshot {
     pub(crate) packages: PackageIndex,
     // The advisories with GIT ranges on each repository, by their indexes in the tables.
     pub(crate) repos: RepoIndex,
+    // The compiled forms of each advisory's ranges.
+    pub(crate) ranges: Vec<Arc<List<CompiledRange>>>,
     // The advisory of each id, by its place in the tables.
     pub(crate) ids: IdIndex,
 }
@@ -49,7 +55,13 @@ impl Snapshot {
             repos: Arc::new(alloc, Vec::new(alloc))?,
             sets: Vec::new(alloc),
         };
-        of_tables(alloc, Arc::new(alloc, tables)?)
+        Ok(Snapshot {
+            tables: Arc::new(alloc, tables)?,
+            packages: PackageIndex::build(alloc, &[])?,
+            repos: RepoIndex::build(alloc, &[])?,
+            ranges: Vec::new(alloc),
+            ids: IdIndex::build(alloc, &[])?,
+        })
     }
 
     /// How many imports it is of.
@@ -125,7 +137,11 @@ impl Snapshot {
             .len()
             .saturating_sub(all_above(records, after).len());
         let indexes = from_index(self.packages.listed(asked), start);
-        first_package_hits(alloc, records, indexes, asked, version, size, steps)
+        let ranges = self.ranges.as_slice();
+        let keys = read_version(alloc, version)?;
+        first_package_hits(
+            alloc, records, ranges, indexes, asked, version, &keys, size, steps,
+        )
     }
 
     // The same for a commit, in entries of a package where one is asked for.
@@ -163,18 +179,27 @@ impl Snapshot {
     }
 }
 
-/// The snapshot that keeps these tables. Only memory can fail.
-pub(crate) fn of_tables(alloc: Global, kept: Arc<Tables>) -> Result<Snapshot, Memory>
-    ensures stands { (p : List Past) → tables.StandsFor (arc_value kept) p → IfOk result (λ s. StandsFor s p) }
+/// The snapshot that keeps these tables, over a base and where the advisories of that are in them. Its indexes
+/// and compiled forms come from the base's, as far as they stay. Only memory can fail.
+pub(crate) fn of_tables(
+    alloc: Global,
+    base: &Snapshot,
+    moves: &Moves,
+    kept: Arc<Tables>,
+) -> Result<Snapshot, Memory>
+    ensures stands { (b p : List Past) → StandsFor base.now b → IsMoved moves.now (records b) (records p) → tables.StandsFor (arc_value kept) p → IfOk result (λ s. StandsFor s p) }
     ensures upto { IfOk result (λ s. snapshot_upto s ≡ (arc_value kept).upto) }
 {
-    let packages = index_of(alloc, kept.records.as_slice())?;
-    let repos = repo_index_of(alloc, kept.records.as_slice())?;
-    let ids = IdIndex::build(alloc, kept.records.as_slice())?;
+    let records = kept.records.as_slice();
+    let packages = renewed_index(alloc, records, &base.packages, moves)?;
+    let repos = repo_index_of(alloc, records)?;
+    let ranges = renewed_ranges(alloc, records, base.ranges.as_slice(), moves)?;
+    let ids = base.ids.renew(alloc, records, moves)?;
     Ok(Snapshot {
         tables: kept,
         packages,
         repos,
+        ranges,
         ids,
     })
 }

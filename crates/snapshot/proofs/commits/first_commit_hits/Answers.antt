@@ -1,4 +1,4 @@
-use Rattle.std.proofs.Common.{◌≡◌, ℕ, ◌≤◌, List, [], ◌∷◌, ◌++◌, Bool, true, false, length, map, take, get_or, Some, lt-ltb, sym, ap, subst, ◌∙◌, arith, length-append}
+use Rattle.std.proofs.Common.{◌≡◌, ℕ, ◌≤◌, List, [], ◌∷◌, ◌++◌, Bool, true, false, length, map, take, get_or, Some, lt-ltb, sym, ap, ◌∙◌, arith, length-append}
 use Rattle.std.proofs.lemmas.Bool.{le-ltb}
 use Rattle.std.proofs.lemmas.List.{length-map, map-append, take_all, get_or_default}
 use Rattle.std.proofs.lemmas.Option.{get_or_from_slice_get}
@@ -6,7 +6,6 @@ use Rattle.std.specs.Prelude.{filter, nat_lt, option_map, slice_get}
 use Rattle.std.specs.Arc.{arc_value}
 use Rattle.osv_record.specs.Advisories.{Advisory}
 use Rattle.history.specs.Prefixes.{graphs}
-use Rattle.impact_job.specs.Tables.{AreSetsOf}
 use Rattle.snapshot.specs.Subjects.{is_commit_hit}
 use Rattle.snapshot.proofs.Pages.{full, one_hit, no_hit, all_fit, same_page}
 use Rattle.snapshot.proofs.commits.first_commit_hits.Goals as goal

@@ -1,4 +1,4 @@
-use Rattle.std.proofs.Common.{◌≡◌, List, sym, subst}
+use Rattle.std.proofs.Common.{List, sym, subst}
 use Rattle.impact_job.specs.Tables.{AreSetsOf}
 use Rattle.snapshot.proofs.Zipped.{at-both, none-at}
 use Rattle.snapshot.proofs.commits.sets_at.Goals as goal

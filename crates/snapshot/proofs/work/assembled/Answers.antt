@@ -1,5 +1,4 @@
 use Rattle.std.proofs.Common.{sym, subst}
-use Rattle.std.specs.Arc.{arc_value}
 use Rattle.snapshot.specs.declared.snapshot.Snapshot.{Snapshot}
 use Rattle.snapshot.specs.Snapshots.{StandsFor}
 use Rattle.snapshot.proofs.work.assembled.Goals as goal

@@ -1,4 +1,4 @@
-use Rattle.std.proofs.Common.{◌≡◌, ℕ, ◌<◌, ◌++◌, [], ◌∷◌, leb, Bor, refl, List, All, arith, length, map, get_or, sym, ap, subst, ◌∙◌, length-append}
+use Rattle.std.proofs.Common.{◌≡◌, ℕ, ◌<◌, ◌++◌, [], ◌∷◌, leb, Bor, refl, List, All, arith, length, map, sym, ap, subst, ◌∙◌, length-append}
 use Rattle.std.specs.Prelude.{Option, option_map, filter}
 use Rattle.std.specs.Arc.{arc_value}
 use Rattle.std.specs.List.{AllZip}
