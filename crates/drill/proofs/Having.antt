@@ -23,7 +23,7 @@ use Rattle.history.specs.Prefixes.{advisories, keys, keys_from, with_key, graph}
 use Rattle.history.proofs.Prefixes.{advisories-append, advisories-imports, keys_from-append, keys_from-imports, graph-imports, graph-goes_on, itself}
 use Rattle.book_model.specs.State.{State, opening}
 use Rattle.schedule.specs.declared.step.Answer.TheVariants.{Entry}
-use Rattle.schedule.specs.Machine.{Machine, Ends, DoesImport, DoesGrow}
+use Rattle.schedule.specs.Machine.{Machine, idle, EndsFrom, DoesImport, DoesGrow}
 use Rattle.drill.specs.Imported.{Has, IsOnly, drill_key}
 use Rattle.drill.proofs.Joining.{joined-again}
 use Rattle.drill.proofs.Quiet.{Same, ends-same}
@@ -48,9 +48,9 @@ has_import s t by r a ks rows e h = record {
 }
 
 pub has-import : (s t : State) (by place : ℕ) (r : Advisory) (m mid : Machine) (a : List Advisory) (ks : List (List ℕ)) (rows : List CommitRow)
-    → DoesImport by r (record { book = s; holder = None }) (Entry place) mid → m ≡ mid → Ends m.holder m.book t → Has s a ks rows → Has t (a ++ r ∷ []) ks rows
+    → DoesImport by r (idle s) (Entry place) mid → m ≡ mid → EndsFrom 0 m.jobs m.book t → Has s a ks rows → Has t (a ++ r ∷ []) ks rows
 has-import s t by place r m mid a ks rows d same ends h =
-    has_import s t by r a ks rows (ends-same m.holder m.book t ends ∙ ap (λ (x : Machine). x.book.history) same ∙ ap (λ (x : State). x.history) d.1.0.2) h
+    has_import s t by r a ks rows (ends-same 0 m.jobs m.book t ends ∙ ap (λ (x : Machine). x.book.history) same ∙ ap (λ (x : State). x.history) d.1.0.2) h
 
 -- ---- rows
 
@@ -82,11 +82,11 @@ has_rows s t by larger rows a ks before only is e h =
     }
 
 pub has-rows : (s t : State) (by place : ℕ) (key : List ℕ) (rows : List CommitRow) (m mid : Machine) (a : List Advisory) (ks : List (List ℕ)) (before : List CommitRow)
-    → key ≡ drill_key → DoesGrow by key rows (record { book = s; holder = None }) (Entry place) mid → m ≡ mid → Ends m.holder m.book t → IsOnly ks → Has s a ks before → Has t a (drill_key ∷ []) (before ++ rows)
+    → key ≡ drill_key → DoesGrow by key rows (idle s) (Entry place) mid → m ≡ mid → EndsFrom 0 m.jobs m.book t → IsOnly ks → Has s a ks before → Has t a (drill_key ∷ []) (before ++ rows)
 has-rows s t by place key rows m mid a ks before is d same ends only h =
-    let x = subst (λ (k : List ℕ). DoesGrow by k rows (record { book = s; holder = None }) (Entry place) mid) is d in
+    let x = subst (λ (k : List ℕ). DoesGrow by k rows (idle s) (Entry place) mid) is d in
     has_rows s t by x.1.0 rows a ks before only (extended-ok rows (graph s.history drill_key) x.1.0 s.settings.commits x.1.1)
-    (ends-same m.holder m.book t ends ∙ ap (λ (y : Machine). y.book.history) same ∙ ap (λ (y : State). y.history) x.1.2.0.1.2) h
+    (ends-same 0 m.jobs m.book t ends ∙ ap (λ (y : Machine). y.book.history) same ∙ ap (λ (y : State). y.history) x.1.2.0.1.2) h
 
 -- ---- whole parts
 

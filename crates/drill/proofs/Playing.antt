@@ -24,7 +24,7 @@ one-answer step s t answers front a e p = at front (subst (λ (xs : List Answer)
 
 -- the history is that behind the step
 history-behind : (step : Step) (s t : State) (a : Answer) (p : IsPlayed (step ∷ []) s (a ∷ []) t) → t.history ≡ p.1.0.book.history
-history-behind step s t a p = ends-same p.0.holder p.0.book t p.2 ∙ ap (λ (x : Machine). x.book.history) p.1.2
+history-behind step s t a p = ends-same 0 p.0.jobs p.0.book t p.2 ∙ ap (λ (x : Machine). x.book.history) p.1.2
 
 pub reached : (s t : State) (by snapshot upto : ℕ) → IsPlayed (Pull by ∷ []) s (Reached snapshot upto ∷ []) t
     → (t.history ≡ s.history) × (snapshot ≡ newest t.history) × (length (imports t.history) ≤ published t.history)

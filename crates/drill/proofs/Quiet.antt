@@ -1,5 +1,5 @@
 -- Steps that import nothing.
-use Rattle.std.proofs.Common.{◌≡◌, ℕ, List, [], ◌∷◌, refl, sym, ap, subst, ◌∙◌}
+use Rattle.std.proofs.Common.{◌≡◌, ℕ, ◌+◌, List, [], ◌∷◌, refl, sym, ap, subst, ◌∙◌}
 use Rattle.std.specs.Prelude.{Option, Some, None, Ok}
 use Rattle.history.specs.Entries.{History, imports}
 use Rattle.book.proofs.Keeping.{imports-publish}
@@ -13,7 +13,7 @@ use Rattle.schedule.specs.declared.step.Step.TheVariants.{Enrol, Import, Grow, P
 use Rattle.schedule.specs.declared.step.Answer.{Answer}
 use Rattle.schedule.specs.declared.step.Answer.TheVariants.{Caller, Entry, Got, Reached, Out, Nothing, Going, Published, Page, Gone, Ahead, Refused}
 use Rattle.schedule.specs.declared.step.PlayFault.TheVariants.{NoCaller, HasJob, NoJob, Graph, Full, CallersSpent}
-use Rattle.schedule.specs.Machine.{Machine, Ends, DoesEnrol, DoesPull, DoesWork, Does, Plays, IsPlayed}
+use Rattle.schedule.specs.Machine.{Machine, idle, EndsFrom, DoesEnrol, DoesPull, DoesWork, Does, Plays, IsPlayed}
 
 abbrev pub Same : State → State → Type 0
 Same s t = imports t.history ≡ imports s.history
@@ -46,8 +46,8 @@ publishes-same Piece by done s entry snapshot t p = absurd p
 publishes-same Assemble by done s entry snapshot t p = ap (λ (x : State). imports x.history) p.2 ∙ imports-publish s.history by done.job.upto
 
 work-same : (by : ℕ) (m : Machine) (a : Answer) (t : Machine) → DoesWork by m a t → Same m.book t.book
-work-same by m Going t d = goes_on-same d.1.0.kind (record { job = d.1.0; cells = [] }) m.book t.book d.1.2.1
-work-same by m (Published n) t d = publishes-same d.1.0.kind by (record { job = d.1.0; cells = [] }) m.book d.1.1 n t.book d.1.3.1
+work-same by m Going t d = goes_on-same d.1.0.job.kind d.1.0 m.book t.book d.1.2.1
+work-same by m (Published n) t d = publishes-same d.1.0.job.kind by d.1.0 m.book d.1.1 n t.book d.1.3.1
 work-same by m (Refused NoCaller) t d = same-book m t d.1
 work-same by m (Refused NoJob) t d = same-book m t d.1.1
 work-same by m a t d = absurd d
@@ -75,10 +75,11 @@ plays-same [] m (a ∷ answers) t q p = absurd p
 plays-same (step ∷ list) m [] t q p = absurd p
 plays-same (step ∷ list) m (a ∷ answers) t q p = plays-same list p.0 answers t q.1 p.2 ∙ does-same step m a p.0 q.0 p.1
 
-pub ends-same : (o : Option (ℕ × JobName)) (s t : State) → Ends o s t → t.history ≡ s.history
-ends-same None s t e = ap (λ (x : State). x.history) e
-ends-same (Some x) s t e = ap (λ (x : State). x.history) e.1
+pub ends-same : (by : ℕ) (jobs : List (Option JobName)) (s t : State) → EndsFrom by jobs s t → t.history ≡ s.history
+ends-same by [] s t e = ap (λ (x : State). x.history) e
+ends-same by (None ∷ jobs) s t e = ends-same (by + 1) jobs s t e
+ends-same by (Some job ∷ jobs) s t e = ends-same (by + 1) jobs e.0 t e.2 ∙ ap (λ (x : State). x.history) e.1.1
 
 pub played-same : (list : List Step) (s : State) (answers : List Answer) (t : State) → AreQuiet list → IsPlayed list s answers t → Same s t
 played-same list s answers t q p =
-    ap (λ (h : History). imports h) (ends-same p.0.holder p.0.book t p.2) ∙ plays-same list (record { book = s; holder = None }) answers p.0 q p.1
+    ap (λ (h : History). imports h) (ends-same 0 p.0.jobs p.0.book t p.2) ∙ plays-same list (idle s) answers p.0 q p.1

@@ -1,5 +1,5 @@
 -- A book and its callers as a small machine: what a step does, and what it answers (our own).
-use Rattle.std.specs.Prelude.{◌≡◌, ℕ, ◌<◌, ◌≤◌, if◌then◌else◌, ◌==◌, List, [], ◌∷◌, length, Option, Some, None, Result, Ok, Err, IsSome}
+use Rattle.std.specs.Prelude.{◌≡◌, ℕ, zero, suc, ◌+◌, ◌<◌, ◌≤◌, List, [], ◌∷◌, ◌++◌, length, slice_index_or, slice_set, Option, Some, None, Result, Ok, Err, IsSome}
 use Rattle.std.specs.Arc.{arc_value}
 use Rattle.osv_prim.specs.declared.oid.CommitRow.{CommitRow}
 use Rattle.osv_prim.specs.declared.subject.Subject.{Subject}
@@ -15,7 +15,7 @@ use Rattle.book_model.specs.declared.answers.Pulled.TheVariants as pulled
 use Rattle.book_model.specs.declared.answers.Taken.TheVariants as taken
 use Rattle.book_model.specs.declared.answers.Progress.TheVariants as progress
 use Rattle.book_model.specs.State.{State}
-use Rattle.book_model.specs.Jobs.{JobName}
+use Rattle.book_model.specs.Jobs.{JobName, Outcome}
 use Rattle.book_model.specs.Steps.{Enrols, Imports, Grows, Pulls, Takes, Finishes, GivesBack}
 use Rattle.snapshot.specs.Pages.{page, page_seen}
 use Rattle.schedule.specs.declared.step.Step.{Step}
@@ -24,18 +24,21 @@ use Rattle.schedule.specs.declared.step.Answer.{Answer}
 use Rattle.schedule.specs.declared.step.Answer.TheVariants.{Caller, Entry, Got, Reached, Out, Nothing, Going, Published, Page, Gone, Ahead, Refused}
 use Rattle.schedule.specs.declared.step.PlayFault.TheVariants.{NoCaller, HasJob, NoJob, Graph, Full, CallersSpent}
 
--- a book's state, and the job that a caller has, if any: a build has one job at a time
+-- a book's state, and the job that each caller has, by its number
 pub record Machine : Type 0 where
   pub book : State
-  pub holder : Option (ℕ × JobName)
+  pub jobs : List (Option JobName)
 
--- the job that this caller has
-abbrev pub job_in : ℕ → Option (ℕ × JobName) → Option JobName
-job_in by None = None
-job_in by (Some x) = if x.0 == by then Some x.1 else None
+-- so many callers without a job
+abbrev pub none_of : {X : Type 0} → ℕ → List (Option X)
+none_of zero = []
+none_of (suc callers) = None ∷ none_of callers
+
+abbrev pub idle : State → Machine
+idle s = record { book = s; jobs = none_of s.callers }
 
 abbrev pub job_of : Machine → ℕ → Option JobName
-job_of m by = job_in by m.holder
+job_of m by = slice_index_or m.jobs by None
 
 -- the caller's number was given, and the book does this
 abbrev pub ByCaller : ℕ → Machine → Type 0 → Type 0
@@ -43,16 +46,20 @@ ByCaller by m does = (by < m.book.callers) × does
 
 -- nobody's job changes
 abbrev pub IsCall : (State → State → Type 0) → Machine → Machine → Type 0
-IsCall does m t = does m.book t.book × (t.holder ≡ m.holder)
+IsCall does m t = does m.book t.book × (t.jobs ≡ m.jobs)
+
+-- a further caller has no job
+abbrev pub IsFurther : (State → State → Type 0) → Machine → Machine → Type 0
+IsFurther does m t = does m.book t.book × (t.jobs ≡ m.jobs ++ None ∷ [])
 
 -- the caller's number was not given, and nothing happens
 abbrev pub IsNobody : ℕ → Machine → Machine → Type 0
 IsNobody by m t = (m.book.callers ≤ by) × (t ≡ m)
 
--- ---- what each step does; jobs stand here for their names, and no plan has pieces
+-- ---- what each step does; jobs stand here for their names
 
 abbrev pub DoesEnrol : Machine → Answer → Machine → Type 0
-DoesEnrol m (Caller number) t = IsCall (λ s u. Enrols s (Ok number) u) m t
+DoesEnrol m (Caller number) t = IsFurther (λ s u. Enrols s (Ok number) u) m t
 DoesEnrol m (Refused CallersSpent) t = (e : numbers.CallersSpent) × IsCall (λ s u. Enrols s (Err e) u) m t
 DoesEnrol m answer t = ⊥
 
@@ -81,8 +88,8 @@ IsBusy by m t = IsSome (job_of m by) × (t ≡ m)
 
 -- the caller has no job yet, and has this one then
 pub record Gets (by : ℕ) (m : Machine) (job : JobName) (t : Machine) : Type 0 where
-  pub before : m.holder ≡ None
-  pub after : t.holder ≡ Some (by, job)
+  pub before : job_of m by ≡ None
+  pub after : t.jobs ≡ slice_set m.jobs by (Some job)
 
 abbrev pub DoesPull : ℕ → Machine → Answer → Machine → Type 0
 DoesPull by m (Reached snapshot upto) t =
@@ -108,14 +115,13 @@ IsIdle by m t = (job_of m by ≡ None) × (t ≡ m)
 
 -- the caller had this job, and has none then
 pub record Spends (by : ℕ) (m : Machine) (job : JobName) (t : Machine) : Type 0 where
-  pub before : m.holder ≡ Some (by, job)
-  pub after : t.holder ≡ None
+  pub before : job_of m by ≡ Some job
+  pub after : t.jobs ≡ slice_set m.jobs by None
 
 abbrev pub DoesWork : ℕ → Machine → Answer → Machine → Type 0
-DoesWork by m Going t =
-    ByCaller by m ((job : JobName) × Spends by m job t × Finishes by (record { job = job; cells = [] }) m.book (Ok progress.Going) t.book)
+DoesWork by m Going t = ByCaller by m ((done : Outcome) × Spends by m done.job t × Finishes by done m.book (Ok progress.Going) t.book)
 DoesWork by m (Published snapshot) t =
-    ByCaller by m ((job : JobName) × (entry : ℕ) × Spends by m job t × Finishes by (record { job = job; cells = [] }) m.book (Ok (progress.Published entry snapshot)) t.book)
+    ByCaller by m ((done : Outcome) × (entry : ℕ) × Spends by m done.job t × Finishes by done m.book (Ok (progress.Published entry snapshot)) t.book)
 DoesWork by m (Refused NoJob) t = ByCaller by m (IsIdle by m t)
 DoesWork by m (Refused NoCaller) t = IsNobody by m t
 DoesWork by m answer t = ⊥
@@ -159,10 +165,11 @@ Plays (step ∷ list) m (answer ∷ answers) t = (mid : Machine) × Does step m 
 Plays [] m (answer ∷ answers) t = ⊥
 Plays (step ∷ list) m [] t = ⊥
 
--- after the last step the job that is still out is free again
-abbrev pub Ends : Option (ℕ × JobName) → State → State → Type 0
-Ends None s t = t ≡ s
-Ends (Some x) s t = GivesBack {U = Unit {0}} x.0 x.1 s (Ok tt) t
+-- after the last step the jobs that are still out are free again, those of the callers from this number on in turn
+abbrev pub EndsFrom : ℕ → List (Option JobName) → State → State → Type 0
+EndsFrom by [] s t = t ≡ s
+EndsFrom by (None ∷ jobs) s t = EndsFrom (by + 1) jobs s t
+EndsFrom by (Some job ∷ jobs) s t = (mid : State) × GivesBack {U = Unit {0}} by job s (Ok tt) mid × EndsFrom (by + 1) jobs mid t
 
 abbrev pub IsPlayed : List Step → State → List Answer → State → Type 0
-IsPlayed list s answers t = (m : Machine) × Plays list (record { book = s; holder = None }) answers m × Ends m.holder m.book t
+IsPlayed list s answers t = (m : Machine) × Plays list (idle s) answers m × EndsFrom 0 m.jobs m.book t

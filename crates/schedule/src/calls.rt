@@ -3,33 +3,38 @@ ghost use Rattle.std.specs.Arc.{arc_value};
 ghost use Rattle.schedule.specs.Machine.{DoesEnrol, DoesImport, DoesGrow, DoesLook};
 ghost use Rattle.schedule.specs.Holding.{machine, IsHolding};
 
-use crate::jobs::Held;
 use crate::step::{Answer, PlayFault};
 use book::Book;
 use book_desk::{GrowFault, ImportFault, Kept};
 use commit_graph::GraphFault;
 use osv_prim::{CommitRow, Id, Ledger, Memory, RepoKey, Steps, Subject};
 use osv_record::Record;
+use snapshot::Job;
 use std::alloc::Global;
 use std::sync::Arc;
 
-/// A further caller.
-pub(crate) fn enrol(book: &mut Book, held: &Option<Held>) -> Answer
-    requires { IsHolding book.old held.now }
-    ensures holding { IsHolding book.new held.now }
+/// A further caller, without a job.
+pub(crate) fn enrol(book: &mut Book, held: &mut Vec<Option<Job>>) -> Result<Answer, Memory>
+    requires { IsHolding book.old held.old.items }
+    ensures holding { IsHolding book.new held.new.items }
     ensures settings { book.new.settings ≡ book.old.settings }
-    ensures does { DoesEnrol (machine book.old held.now) result (machine book.new held.now) }
+    ensures does { IfOk result (λ a. DoesEnrol (machine book.old held.old.items) a (machine book.new held.new.items)) }
+    ensures err { OnErr result (machine book.new held.new.items ≡ machine book.old held.old.items) }
 {
+    held.reserve(1)?;
     match book.enrol() {
-        Ok(number) => Answer::Caller(number),
-        Err(_) => Answer::Refused(PlayFault::CallersSpent),
+        Ok(number) => {
+            held.push_reserved(None);
+            Ok(Answer::Caller(number))
+        }
+        Err(_) => Ok(Answer::Refused(PlayFault::CallersSpent)),
     }
 }
 
 /// Imports an advisory.
 pub(crate) fn import(
     book: &mut Book,
-    held: &Option<Held>,
+    held: &[Option<Job>],
     by: u64,
     advisory: &Arc<Record>,
 ) -> Result<Answer, Memory>
@@ -56,7 +61,7 @@ pub(crate) fn import(
 pub(crate) fn grow<L: Ledger>(
     alloc: Global,
     book: &mut Book,
-    held: &Option<Held>,
+    held: &[Option<Job>],
     by: u64,
     key: &RepoKey,
     rows: &[CommitRow],
@@ -96,7 +101,7 @@ pub(crate) fn grow<L: Ledger>(
 pub(crate) fn look<L: Ledger>(
     alloc: Global,
     book: &Book,
-    held: &Option<Held>,
+    held: &[Option<Job>],
     by: u64,
     subject: &Subject,
     named: Option<u64>,

@@ -1,6 +1,6 @@
-ghost use Rattle.std.specs.Prelude.{◌≡◌, IfOk, OnErr, is_some};
-ghost use Rattle.schedule.specs.Machine.{job_in, DoesPull, DoesTake, DoesWork, DoesBack};
-ghost use Rattle.schedule.specs.Holding.{holder_of, machine, IsHolding};
+ghost use Rattle.std.specs.Prelude.{◌≡◌, ◌<◌, IfOk, OnErr, None, is_some, slice_index_or, slice_set, vec_len};
+ghost use Rattle.schedule.specs.Machine.{DoesPull, DoesTake, DoesWork, DoesBack};
+ghost use Rattle.schedule.specs.Holding.{machine, EndsOne, IsHolding};
 
 use crate::step::{Answer, PlayFault};
 use book::Book;
@@ -10,35 +10,28 @@ use osv_prim::{Ledger, Memory, Steps};
 use snapshot::{Job, do_job};
 use std::alloc::Global;
 
-/// A job, and the caller that has it.
-#[derive(Drop)]
-pub(crate) struct Held {
-    pub(crate) by: u64,
-    pub(crate) job: Job,
-}
-
-// The caller has the job.
-fn has_job(held: &Option<Held>, by: u64) -> bool
-    ensures { result ≡ is_some (job_in by (holder_of held.now)) }
+// The caller has a job.
+fn has_job(held: &[Option<Job>], by: u64) -> bool
+    ensures { result ≡ is_some (slice_index_or held.now by None) }
 {
-    match held {
-        Some(held) => held.by == by,
-        None => false,
+    match held.get(by as usize) {
+        Some(Some(_)) => true,
+        _ => false,
     }
 }
 
 /// Asks for a snapshot of all imports.
-pub(crate) fn pull(book: &mut Book, held: &mut Option<Held>, by: u64) -> Result<Answer, Memory>
-    requires { IsHolding book.old held.old }
-    ensures holding { IsHolding book.new held.new }
+pub(crate) fn pull(book: &mut Book, held: &mut Vec<Option<Job>>, by: u64) -> Result<Answer, Memory>
+    requires { IsHolding book.old held.old.items }
+    ensures holding { IsHolding book.new held.new.items }
     ensures settings { book.new.settings ≡ book.old.settings }
-    ensures does { IfOk result (λ a. DoesPull by (machine book.old held.old) a (machine book.new held.new)) }
-    ensures err { OnErr result (machine book.new held.new ≡ machine book.old held.old) }
+    ensures does { IfOk result (λ a. DoesPull by (machine book.old held.old.items) a (machine book.new held.new.items)) }
+    ensures err { OnErr result (machine book.new held.new.items ≡ machine book.old held.old.items) }
 {
     if book.callers() <= by {
         return Ok(Answer::Refused(PlayFault::NoCaller));
     }
-    if has_job(held, by) {
+    if has_job(held.as_slice(), by) {
         return Ok(Answer::Refused(PlayFault::HasJob));
     }
     // Its contract tells that the book is sound.
@@ -48,24 +41,24 @@ pub(crate) fn pull(book: &mut Book, held: &mut Option<Held>, by: u64) -> Result<
         Pulled::Reached { snapshot, upto } => Ok(Answer::Reached { snapshot, upto }),
         Pulled::Out { out } => Ok(Answer::Out(out)),
         Pulled::Job(job) => {
-            *held = Some(Held { by, job });
+            held[by as usize] = Some(job);
             Ok(Answer::Got)
         }
     }
 }
 
 /// Asks for a job of the build that is open.
-pub(crate) fn take(book: &mut Book, held: &mut Option<Held>, by: u64) -> Result<Answer, Memory>
-    requires { IsHolding book.old held.old }
-    ensures holding { IsHolding book.new held.new }
+pub(crate) fn take(book: &mut Book, held: &mut Vec<Option<Job>>, by: u64) -> Result<Answer, Memory>
+    requires { IsHolding book.old held.old.items }
+    ensures holding { IsHolding book.new held.new.items }
     ensures settings { book.new.settings ≡ book.old.settings }
-    ensures does { IfOk result (λ a. DoesTake by (machine book.old held.old) a (machine book.new held.new)) }
-    ensures err { OnErr result (machine book.new held.new ≡ machine book.old held.old) }
+    ensures does { IfOk result (λ a. DoesTake by (machine book.old held.old.items) a (machine book.new held.new.items)) }
+    ensures err { OnErr result (machine book.new held.new.items ≡ machine book.old held.old.items) }
 {
     if book.callers() <= by {
         return Ok(Answer::Refused(PlayFault::NoCaller));
     }
-    if has_job(held, by) {
+    if has_job(held.as_slice(), by) {
         return Ok(Answer::Refused(PlayFault::HasJob));
     }
     // Its contract tells that the book is sound.
@@ -73,7 +66,7 @@ pub(crate) fn take(book: &mut Book, held: &mut Option<Held>, by: u64) -> Result<
     match book.take(by)? {
         Taken::Nothing { out } => Ok(Answer::Nothing(out)),
         Taken::Job(job) => {
-            *held = Some(Held { by, job });
+            held[by as usize] = Some(job);
             Ok(Answer::Got)
         }
     }
@@ -83,56 +76,80 @@ pub(crate) fn take(book: &mut Book, held: &mut Option<Held>, by: u64) -> Result<
 pub(crate) fn work<L: Ledger>(
     alloc: Global,
     book: &mut Book,
-    held: &mut Option<Held>,
+    held: &mut Vec<Option<Job>>,
     by: u64,
     steps: &mut Steps<L>,
 ) -> Result<Answer, Memory>
-    requires { IsHolding book.old held.old }
-    ensures holding { IsHolding book.new held.new }
+    requires { IsHolding book.old held.old.items }
+    ensures holding { IsHolding book.new held.new.items }
     ensures settings { book.new.settings ≡ book.old.settings }
-    ensures does { IfOk result (λ a. DoesWork by (machine book.old held.old) a (machine book.new held.new)) }
-    ensures err { OnErr result (machine book.new held.new ≡ machine book.old held.old) }
+    ensures does { IfOk result (λ a. DoesWork by (machine book.old held.old.items) a (machine book.new held.new.items)) }
+    ensures err { OnErr result (machine book.new held.new.items ≡ machine book.old held.old.items) }
 {
     if book.callers() <= by {
         return Ok(Answer::Refused(PlayFault::NoCaller));
     }
-    if !has_job(held, by) {
+    if !has_job(held.as_slice(), by) {
         return Ok(Answer::Refused(PlayFault::NoJob));
     }
-    let Some(mine) = held.take() else {
+    // Its contract tells that the book is sound.
+    let _point = book.point();
+    let Some(job) = held[by as usize].take() else {
         unreachable!()
     };
-    match do_job(alloc, mine.job, &OpenGate, steps) {
+    match do_job(alloc, job, &OpenGate, steps) {
         Ok(finished) => match book.finish(by, finished) {
             Ok(Progress::Going) => Ok(Answer::Going),
             Ok(Progress::Published { snapshot, .. }) => Ok(Answer::Published(snapshot)),
             Err(_) => unreachable!(),
         },
         Err(job) => {
-            *held = Some(Held { by, job });
+            held[by as usize] = Some(job);
             Err(Memory)
         }
     }
 }
 
 /// Hands the caller's job back.
-pub(crate) fn back(book: &mut Book, held: &mut Option<Held>, by: u64) -> Answer
-    requires { IsHolding book.old held.old }
-    ensures holding { IsHolding book.new held.new }
+pub(crate) fn back(book: &mut Book, held: &mut Vec<Option<Job>>, by: u64) -> Answer
+    requires { IsHolding book.old held.old.items }
+    ensures holding { IsHolding book.new held.new.items }
     ensures settings { book.new.settings ≡ book.old.settings }
-    ensures does { DoesBack by (machine book.old held.old) result (machine book.new held.new) }
+    ensures does { DoesBack by (machine book.old held.old.items) result (machine book.new held.new.items) }
 {
     if book.callers() <= by {
         return Answer::Refused(PlayFault::NoCaller);
     }
-    if !has_job(held, by) {
+    if !has_job(held.as_slice(), by) {
         return Answer::Refused(PlayFault::NoJob);
     }
-    let Some(mine) = held.take() else {
+    // Its contract tells that the book is sound.
+    let _point = book.point();
+    let Some(job) = held[by as usize].take() else {
         unreachable!()
     };
-    match book.give_back(by, mine.job) {
+    match book.give_back(by, job) {
         Ok(()) => Answer::Going,
+        Err(_) => unreachable!(),
+    }
+}
+
+/// After the last step the caller's job is free again, where it has one.
+pub(crate) fn end(book: &mut Book, held: &mut Vec<Option<Job>>, by: usize)
+    requires holding { IsHolding book.old held.old.items }
+    requires within { by < vec_len held.old }
+    ensures holding { IsHolding book.new held.new.items }
+    ensures settings { book.new.settings ≡ book.old.settings }
+    ensures left { held.new.items ≡ slice_set held.old.items by None }
+    ensures ends { EndsOne by (slice_index_or held.old.items by None) book.old book.new }
+{
+    // Its contract tells that the book is sound.
+    let _point = book.point();
+    let Some(job) = held[by].take() else {
+        return;
+    };
+    match book.give_back(by as u64, job) {
+        Ok(()) => {}
         Err(_) => unreachable!(),
     }
 }

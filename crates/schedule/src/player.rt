@@ -1,39 +1,41 @@
-ghost use Rattle.std.specs.Prelude.{◌≡◌, ℕ, List, take, IfOk, OnErr};
+ghost use Rattle.std.specs.Prelude.{◌≡◌, ℕ, List, take, map, option_map, IfOk, OnErr};
+ghost use Rattle.snapshot.specs.Jobs.{name};
 ghost use Rattle.schedule.specs.declared.step.Answer.{Answer};
-ghost use Rattle.schedule.specs.Machine.{Machine, Does, Plays, IsPlayed};
+ghost use Rattle.schedule.specs.Machine.{Does, Plays, none_of, EndsFrom, IsPlayed};
 ghost use Rattle.schedule.specs.Holding.{machine, IsHolding};
 
 use crate::calls::{enrol, grow, import, look};
-use crate::jobs::{Held, back, pull, take, work};
+use crate::jobs::{back, end, pull, take, work};
 use crate::step::{Answer, Step};
 use book::Book;
 use osv_prim::{Ledger, Memory, Steps};
 use settings::Settings;
+use snapshot::Job;
 use std::alloc::Global;
 
 // One step.
 fn act<L: Ledger>(
     alloc: Global,
     book: &mut Book,
-    held: &mut Option<Held>,
+    held: &mut Vec<Option<Job>>,
     step: &Step,
     settings: &Settings,
     steps: &mut Steps<L>,
 ) -> Result<Answer, Memory>
-    requires holding { IsHolding book.old held.old }
+    requires holding { IsHolding book.old held.old.items }
     requires settings { book.old.settings ≡ settings.now }
-    ensures holding { IsHolding book.new held.new }
+    ensures holding { IsHolding book.new held.new.items }
     ensures settings { book.new.settings ≡ book.old.settings }
-    ensures does { IfOk result (λ a. Does step.now (machine book.old held.old) a (machine book.new held.new)) }
-    ensures err { OnErr result (machine book.new held.new ≡ machine book.old held.old) }
+    ensures does { IfOk result (λ a. Does step.now (machine book.old held.old.items) a (machine book.new held.new.items)) }
+    ensures err { OnErr result (machine book.new held.new.items ≡ machine book.old held.old.items) }
 {
     match step {
-        Step::Enrol => Ok(enrol(book, held)),
-        Step::Import { by, advisory } => import(book, held, *by, advisory),
+        Step::Enrol => enrol(book, held),
+        Step::Import { by, advisory } => import(book, held.as_slice(), *by, advisory),
         Step::Grow { by, key, rows } => grow(
             alloc,
             book,
-            held,
+            held.as_slice(),
             *by,
             key,
             rows.as_slice(),
@@ -52,7 +54,7 @@ fn act<L: Ledger>(
         } => look(
             alloc,
             book,
-            held,
+            held.as_slice(),
             *by,
             subject,
             *named,
@@ -68,17 +70,17 @@ fn act<L: Ledger>(
 fn play_all<L: Ledger>(
     alloc: Global,
     book: &mut Book,
-    held: &mut Option<Held>,
+    held: &mut Vec<Option<Job>>,
     list: &[Step],
     settings: &Settings,
     steps: &mut Steps<L>,
 ) -> Result<Vec<Answer>, Memory>
-    requires holding { IsHolding book.old held.old }
+    requires holding { IsHolding book.old held.old.items }
     requires settings { book.old.settings ≡ settings.now }
-    ensures holding { IsHolding book.new held.new }
+    ensures holding { IsHolding book.new held.new.items }
     ensures settings { book.new.settings ≡ book.old.settings }
-    ensures ok { IfOk result (λ answers. Plays list.now (machine book.old held.old) answers.items (machine book.new held.new)) }
-    ensures err { OnErr result ((done : ℕ) × (answers : List Answer) × Plays (take done list.now) (machine book.old held.old) answers (machine book.new held.new)) }
+    ensures ok { IfOk result (λ answers. Plays list.now (machine book.old held.old.items) answers.items (machine book.new held.new.items)) }
+    ensures err { OnErr result ((done : ℕ) × (answers : List Answer) × Plays (take done list.now) (machine book.old held.old.items) answers (machine book.new held.new.items)) }
 {
     let mut answers = Vec::with_capacity(alloc, list.len())?;
     for step in list {
@@ -88,9 +90,31 @@ fn play_all<L: Ledger>(
     Ok(answers)
 }
 
+// Callers without a job, so many.
+fn none_held(alloc: Global, callers: u64) -> Result<Vec<Option<Job>>, Memory>
+    ensures { IfOk result (λ held. held.items ≡ none_of callers) }
+{
+    let mut held = Vec::new(alloc);
+    for caller in 0..callers {
+        held.push(None)?;
+    }
+    Ok(held)
+}
+
+// The jobs that are out are free again.
+fn end_all(book: &mut Book, held: &mut Vec<Option<Job>>)
+    requires { IsHolding book.old held.old.items }
+    ensures settings { book.new.settings ≡ book.old.settings }
+    ensures ends { EndsFrom 0 (map (λ job. option_map name job) held.old.items) book.old book.new }
+{
+    for by in 0..held.len() {
+        end(book, held, by);
+    }
+}
+
 /// Carries out the steps of a list, one after another, and gives their answers. The settings are the
-/// book's. After the last step the job that is still out is free again. Only memory can fail: then some of
-/// the steps are done, the first so many.
+/// book's. After the last step the jobs that are still out are free again. Only memory can fail: then some
+/// of the steps are done, the first so many.
 pub fn play<L: Ledger>(
     alloc: Global,
     book: &mut Book,
@@ -103,15 +127,8 @@ pub fn play<L: Ledger>(
     ensures ok { IfOk result (λ answers. IsPlayed list.now book.old answers.items book.new) }
     ensures err { OnErr result ((done : ℕ) × (answers : List Answer) × IsPlayed (take done list.now) book.old answers book.new) }
 {
-    let mut held = None;
+    let mut held = none_held(alloc, book.callers())?;
     let played = play_all(alloc, book, &mut held, list, settings, steps);
-    if let Some(Held { by, job }) = held {
-        // Its contract tells that the book is sound.
-        let _point = book.point();
-        match book.give_back(by, job) {
-            Ok(()) => {}
-            Err(_) => unreachable!(),
-        }
-    }
+    end_all(book, &mut held);
     played
 }

@@ -5,5 +5,5 @@ use Rattle.schedule.specs.Holding.{machine, IsHolding}
 use Rattle.schedule.proofs.player.play_all.Given as goal
 
 abbrev pub invariant-loop-step : goal.invariant-loop-step
-invariant-loop-step g l = IsHolding l.book l.held × (l.book.settings ≡ l.settings) × Plays (take l.step-index l.list) (machine l.fn.book l.fn.held) l.answers.items (machine l.book l.held)
+invariant-loop-step g l = IsHolding l.book l.held.items × (l.book.settings ≡ l.settings) × Plays (take l.step-index l.list) (machine l.fn.book l.fn.held.items) l.answers.items (machine l.book l.held.items)
     × (vec_len l.answers ≡ l.step-index) × (length l.list ≤ vec_capacity l.answers)
