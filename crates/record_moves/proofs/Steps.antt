@@ -69,7 +69,6 @@ behind front xs n p = append_assoc front p.first (p.last ∷ []) ∙ sym (ap (λ
 -- ---- steps
 
 module _ (moved added : List ℕ) (old new : List Advisory) (m : AreMoved moved added old new) (r : Advisory) where
-
   pub kept : (place : ℕ) → place ≡ length new → place < gone → AreMoved (moved ++ place ∷ []) added (old ++ r ∷ []) (new ++ r ∷ [])
   kept place is low =
       let long = length-push new r in
