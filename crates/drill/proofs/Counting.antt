@@ -1,6 +1,6 @@
 -- The hits of the newest snapshot, where it is of all imports.
-use Rattle.std.proofs.Common.{rules, ◌≡◌, ℕ, suc, ◌+◌, ◌<◌, ◌≤◌, Bool, true, false, List, [], ◌∷◌, ◌++◌, length, take, map, filter, get_or, nat_lt, refl, sym, ap, subst, ◌∙◌, arith}
-use Rattle.std.specs.Prelude.{Option, Some, None, sum_by}
+use Rattle.std.proofs.Common.{rules, ◌≡◌, ℕ, suc, ◌+◌, ◌<◌, ◌≤◌, false, List, [], ◌∷◌, length, take, map, filter, get_or, nat_lt, refl, sym, ap, ◌∙◌, arith}
+use Rattle.std.specs.Prelude.{None, sum_by}
 use Rattle.std.specs.Arc.{arc_value}
 use Rattle.std.proofs.lemmas.List.{take_all, length-map}
 use Rattle.osv_prim.specs.declared.oid.CommitRow.{CommitRow}
@@ -9,7 +9,7 @@ use Rattle.osv_prim.specs.Graphs.{joined}
 use Rattle.osv_record.specs.Advisories.{Advisory}
 use Rattle.evaluate.specs.Hits.{Repo, hits}
 use Rattle.history.specs.declared.past.Past.{Past}
-use Rattle.history.specs.Entries.{History, imports, newest, snap}
+use Rattle.history.specs.Entries.{imports, newest, snap}
 use Rattle.history.specs.Prefixes.{advisories, graphs, graph}
 use Rattle.history.proofs.Prefixes.{advisories-imports, graphs-imports}
 use Rattle.book_model.specs.State.{State, published}

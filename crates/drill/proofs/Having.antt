@@ -1,5 +1,5 @@
 -- What a book has of a drill, step by step.
-use Rattle.std.proofs.Common.{◌≡◌, ℕ, ◌+◌, ◌<◌, ◌≤◌, Bool, true, false, cond, List, [], ◌∷◌, ◌++◌, length, take, drop, get_or, map, refl, sym, ap, subst, ◌∙◌, arith}
+use Rattle.std.proofs.Common.{◌≡◌, ℕ, ◌+◌, ◌<◌, Bool, cond, List, [], ◌∷◌, ◌++◌, length, take, drop, get_or, map, refl, sym, ap, subst, ◌∙◌}
 use Rattle.std.specs.Prelude.{Option, Some, None, Result, Ok, Err, OnOk}
 use Rattle.std.specs.Str.{bytes_eq}
 use Rattle.std.specs.Option.{option_map_or}
@@ -7,7 +7,6 @@ use Rattle.std.proofs.lemmas.List.{append-nil, append_assoc, map-append}
 use Rattle.std.proofs.lemmas.Grind.{take_at_read}
 use Rattle.std.proofs.lemmas.List.Sums.{fold-append}
 use Rattle.osv_prim.specs.declared.oid.CommitRow.{CommitRow}
-use Rattle.osv_prim.specs.declared.subject.Subject.{Subject}
 use Rattle.osv_prim.specs.Graphs.{joined, with_row}
 use Rattle.osv_prim.specs.Repos.{normal_repo}
 use Rattle.drill_input.specs.Questions.{repo_url}
@@ -18,8 +17,7 @@ use Rattle.commit_graph.specs.Extended.{extended, extended_from}
 use Rattle.settings.specs.declared.Settings.{Settings}
 use Rattle.history.specs.declared.past.Past.{Past}
 use Rattle.history.specs.declared.past.Past.TheVariants.{Import, Grow}
-use Rattle.history.specs.Entries.{History, imports}
-use Rattle.history.specs.Prefixes.{advisories, keys, keys_from, with_key, graph}
+use Rattle.history.specs.Prefixes.{advisories, keys, with_key, graph}
 use Rattle.history.proofs.Prefixes.{advisories-append, advisories-imports, keys_from-append, keys_from-imports, graph-imports, graph-goes_on, itself}
 use Rattle.book_model.specs.State.{State, opening}
 use Rattle.schedule.specs.declared.step.Answer.TheVariants.{Entry}

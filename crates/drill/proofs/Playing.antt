@@ -1,6 +1,6 @@
 -- Lists of one step.
-use Rattle.std.proofs.Common.{◌≡◌, ℕ, ◌≤◌, List, [], ◌∷◌, ◌++◌, length, refl, sym, ap, subst, ◌∙◌}
-use Rattle.std.specs.Prelude.{Option, Some, None}
+use Rattle.std.proofs.Common.{◌≡◌, ℕ, ◌≤◌, List, [], ◌∷◌, ◌++◌, length, sym, ap, subst, ◌∙◌}
+use Rattle.std.specs.Prelude.{None}
 use Rattle.osv_prim.specs.declared.subject.Subject.{Subject}
 use Rattle.history.specs.Entries.{History, imports, newest, snap}
 use Rattle.book_model.specs.State.{State, published}
@@ -10,7 +10,7 @@ use Rattle.schedule.specs.declared.step.Step.{Step}
 use Rattle.schedule.specs.declared.step.Step.TheVariants.{Pull, Look}
 use Rattle.schedule.specs.declared.step.Answer.{Answer}
 use Rattle.schedule.specs.declared.step.Answer.TheVariants.{Reached, Page}
-use Rattle.schedule.specs.Machine.{Machine, Does, IsPlayed}
+use Rattle.schedule.specs.Machine.{Machine, IsPlayed}
 use Rattle.drill.proofs.Quiet.{ends-same}
 
 -- it has one answer, which is the last

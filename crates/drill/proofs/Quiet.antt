@@ -1,18 +1,16 @@
 -- Steps that import nothing.
-use Rattle.std.proofs.Common.{◌≡◌, ℕ, ◌+◌, List, [], ◌∷◌, refl, sym, ap, subst, ◌∙◌}
-use Rattle.std.specs.Prelude.{Option, Some, None, Ok}
+use Rattle.std.proofs.Common.{◌≡◌, ℕ, ◌+◌, List, [], ◌∷◌, ap, ◌∙◌}
+use Rattle.std.specs.Prelude.{Option, Some, None}
 use Rattle.history.specs.Entries.{History, imports}
 use Rattle.book.proofs.Keeping.{imports-publish}
-use Rattle.book_model.specs.declared.answers.Progress.TheVariants as progress
-use Rattle.book_model.specs.State.{Kind, Plan, Piece, Assemble, State, with_build, with_entry}
+use Rattle.book_model.specs.State.{Kind, Plan, Piece, Assemble, State}
 use Rattle.book_model.specs.Jobs.{JobName, Outcome}
 use Rattle.book_model.specs.Steps.{GoesOn, Publishes}
-use Rattle.history.specs.declared.past.Past.TheVariants.{Publish}
 use Rattle.schedule.specs.declared.step.Step.{Step}
-use Rattle.schedule.specs.declared.step.Step.TheVariants.{Enrol, Import, Grow, Pull, Take, Work, Back, Look}
+use Rattle.schedule.specs.declared.step.Step.TheVariants.{Enrol, Pull, Work}
 use Rattle.schedule.specs.declared.step.Answer.{Answer}
-use Rattle.schedule.specs.declared.step.Answer.TheVariants.{Caller, Entry, Got, Reached, Out, Nothing, Going, Published, Page, Gone, Ahead, Refused}
-use Rattle.schedule.specs.declared.step.PlayFault.TheVariants.{NoCaller, HasJob, NoJob, Graph, Full, CallersSpent}
+use Rattle.schedule.specs.declared.step.Answer.TheVariants.{Caller, Got, Reached, Out, Going, Published, Refused}
+use Rattle.schedule.specs.declared.step.PlayFault.TheVariants.{NoCaller, HasJob, NoJob, CallersSpent}
 use Rattle.schedule.specs.Machine.{Machine, idle, EndsFrom, DoesEnrol, DoesPull, DoesWork, Does, Plays, IsPlayed}
 
 abbrev pub Same : State → State → Type 0

@@ -1,5 +1,4 @@
-use Rattle.std.proofs.Common.{rules, ◌≡◌, ◌+◌, ◌≤◌, ℕ, List, take, length, ap, subst, sym, ◌∙◌, arith}
-use Rattle.osv_prim.specs.declared.subject.Subject.TheVariants.{Commit}
+use Rattle.std.proofs.Common.{rules, ◌≡◌, ◌+◌, ◌≤◌, length, ap, ◌∙◌, arith}
 use Rattle.std.proofs.lemmas.List.{take_all}
 use Rattle.drill.specs.Drilled.{commit_hits}
 use Rattle.drill.proofs.Counting.{no-commit, commit-more}

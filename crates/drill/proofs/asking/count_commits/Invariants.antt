@@ -1,4 +1,4 @@
-use Rattle.std.proofs.Common.{◌≡◌, ℕ, List, [], ◌∷◌, take}
+use Rattle.std.proofs.Common.{◌≡◌, List, [], ◌∷◌, take}
 use Rattle.osv_prim.specs.declared.oid.CommitRow.{CommitRow}
 use Rattle.osv_record.specs.Advisories.{Advisory}
 use Rattle.drill.specs.Imported.{Has, IsPublished, drill_key}

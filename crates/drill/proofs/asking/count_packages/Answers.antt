@@ -1,4 +1,4 @@
-use Rattle.std.proofs.Common.{rules, ◌≡◌, ◌+◌, ℕ, ap, subst, sym, ◌∙◌, arith}
+use Rattle.std.proofs.Common.{rules, ◌≡◌, ◌+◌, ℕ, ap, ◌∙◌, arith}
 use Rattle.osv_prim.specs.declared.subject.Subject.{Subject}
 use Rattle.drill.specs.Drilled.{all_hits, package_hits}
 use Rattle.drill.proofs.Counting.{no-package, package-more}

@@ -1,4 +1,4 @@
-use Rattle.std.proofs.Common.{◌≡◌, ◌++◌, ◌∷◌, [], List, subst}
+use Rattle.std.proofs.Common.{◌++◌, ◌∷◌, [], List, subst}
 use Rattle.osv_prim.specs.declared.oid.CommitRow.{CommitRow}
 use Rattle.schedule.specs.declared.step.Answer.{Answer}
 use Rattle.schedule.specs.declared.step.Step.TheVariants.{Grow}

@@ -1,4 +1,4 @@
-use Rattle.std.proofs.Common.{rules, ◌≡◌, ◌≤◌, ◌++◌, List, length, map, subst, ◌∙◌, arith}
+use Rattle.std.proofs.Common.{rules, ◌≤◌, ◌++◌, List, length, map, subst, ◌∙◌, arith}
 use Rattle.std.specs.Arc.{arc_value}
 use Rattle.std.proofs.lemmas.List.{take_all}
 use Rattle.osv_record.specs.Advisories.{Advisory}
