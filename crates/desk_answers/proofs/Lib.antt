@@ -1,4 +1,5 @@
 pub mod Importing
 pub mod Joining
+pub mod Querying
 pub mod Showing
 pub mod Streams
