@@ -24,7 +24,7 @@ fn case_of(line: &str) -> Option<Case> {
     })
 }
 
-fn answer_all<R: Threads + Wait + Sync>(host: &HostRuntime, rt: &R) -> io::Result<()> {
+fn answer_all<R: Threads + Wait + Sync + 'static>(host: &HostRuntime, rt: &R) -> io::Result<()> {
     for line in host.lines(host.alloc()) {
         match case_of(line?.as_str()) {
             Some(case) => println!(host; "{}", run(host, rt, case)?)?,

@@ -46,15 +46,17 @@ fn connections<'a, R: Wait>(
     Ok(all)
 }
 
-fn served<R: Threads + Wait + Sync>(
+// Serves the clients of a case, until there are no more.
+fn serve_clients<'a, R: Threads + Wait + Sync + 'static>(
     host: &HostRuntime,
-    rt: &R,
+    rt: &'a R,
+    gate: &'a HoldGate,
     case: Case,
-) -> Result<String, Memory> {
+    first: &Sent,
+    second: &Sent,
+) -> Result<(), Memory> {
     let alloc = host.alloc();
-    let gate = HoldGate::new(1, 0, 1, case.turns);
-    let (first, second) = (nothing_sent(alloc)?, nothing_sent(alloc)?);
-    let clients = connections(rt, alloc, &gate, case.clients, &first, &second)?;
+    let clients = connections(rt, alloc, gate, case.clients, first, second)?;
     let mut listener = MemListener::new(rt, alloc, clients)?;
     let crew = Crew {
         lanes: case.lanes,
@@ -67,8 +69,20 @@ fn served<R: Threads + Wait + Sync>(
         &Settings::default(),
         crew,
         &mut listener,
-        &gate,
+        gate,
     )?;
+    Ok(())
+}
+
+fn served<R: Threads + Wait + Sync + 'static>(
+    host: &HostRuntime,
+    rt: &R,
+    case: Case,
+) -> Result<String, Memory> {
+    let alloc = host.alloc();
+    let gate = HoldGate::new(1, 0, 1, case.turns);
+    let (first, second) = (nothing_sent(alloc)?, nothing_sent(alloc)?);
+    serve_clients(host, rt, &gate, case, &first, &second)?;
     let (published, empty) = (is_published(rt, &first), is_empty_of_0(rt, &second));
     let ran_out = gate.ran_out();
     Ok(format!(in alloc;
@@ -77,7 +91,7 @@ fn served<R: Threads + Wait + Sync>(
 }
 
 /// Runs a service until its clients are served.
-pub fn run<R: Threads + Wait + Sync>(
+pub fn run<R: Threads + Wait + Sync + 'static>(
     host: &HostRuntime,
     rt: &R,
     case: Case,
