@@ -12,6 +12,7 @@ use Rattle.std.proofs.lemmas.List.Quantifiers.{position-Some}
 use Rattle.std.proofs.lemmas.List.Sums.{position_or_len_is, fails_before_first, prefix_len-le-length}
 use Rattle.std.proofs.lemmas.Bool.{cases_lt, lt-ltb, ltb-true, false_from_ne_true}
 use Rattle.osv_prim.specs.declared.oid.CommitRow.{CommitRow}
+use Rattle.indexmap.specs.IndexSet.{insert_key}
 use Rattle.osv_prim.specs.Graphs.{ids, has, number_of}
 use Rattle.commit_graph.specs.Segments.{Part, seen}
 use Rattle.commit_graph.proofs.Numbers.{absent_before}
@@ -193,6 +194,11 @@ absent_next rows other i r lt at differ =
     (ap (λ (x : CommitRow). x.oid) (at ∙ sym (get_or-append-add rows other i r))
     ∙ sym (id_at-row (rows ++ other) (length rows + i) r (omega (arith, lt, length-append rows other))))
     ∙ absent_before (rows ++ other) differ (length rows + i) (omega (arith, lt, length-append rows other))
+
+-- the ids, and that of a row which isn't there yet
+pub id_new : (rows : List CommitRow) (r : CommitRow) (keys : List (List ℕ)) → keys ≡ ids rows → has rows r.oid ≡ false → insert_key bytes_eq keys r.oid ≡ ids (rows ++ r ∷ [])
+id_new rows r keys is absent =
+    ap (λ ks. insert_key bytes_eq ks r.oid) is ∙ ap (λ (b : Bool). cond b (ids rows) (ids rows ++ r.oid ∷ [])) absent ∙ sym (ids-append rows (r ∷ []))
 
 -- ---- rows behind others
 

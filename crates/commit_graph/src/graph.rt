@@ -138,7 +138,7 @@ impl Graph {
             count,
             weight,
         } = self;
-        let (from, room) = small_from(segments.as_slice(), fresh.len());
+        let (from, room) = small_from(segments.as_slice(), fresh.len(), count as usize);
         let last = merged(alloc, segments.as_slice(), from, room, fresh)?;
         segments.truncate(from);
         segments.push(Arc::new(alloc, last)?)?;

@@ -94,11 +94,17 @@ impl Segment {
         ensures rows { IfOk result (λ s. s.rows ≡ self.rows ++ other.now.rows) }
         ensures numbers { IfOk result (λ s. s.numbers ≡ self.numbers ++ other.now.numbers) }
     {
-        let mut segment = self;
+        let Segment {
+            mut rows,
+            mut ids,
+            mut parents,
+        } = self;
         for index in 0..other.len() {
             let row = other.row(index).copy(alloc)?;
-            segment = segment.with_row(row, other.numbers(index))?;
+            parents.push(other.numbers(index))?;
+            let _ = ids.insert(row.oid)?;
+            rows.push(row)?;
         }
-        Ok(segment)
+        Ok(Segment { rows, ids, parents })
     }
 }

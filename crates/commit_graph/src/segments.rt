@@ -12,6 +12,12 @@ use std::sync::Arc;
 // How many segments of one size are kept before they are made one.
 const SIDE_BY_SIDE: usize = 15;
 
+// Which part of a graph's rows a segment may have that others are made into, and how many rows at least. It bounds what one
+// growth copies.
+const PARTS: usize = 128;
+
+const LEAST: usize = 4_096;
+
 /// The segment, or the fresh rows, where the row with a number stands, and its index there. The largest
 /// segments come first, so most rows are found at once.
 pub(crate) fn place_of<'a>(
@@ -64,13 +70,24 @@ pub(crate) fn shared(alloc: Global, segments: &[Arc<Segment>]) -> Result<Vec<Arc
     Ok(own)
 }
 
+// Whether a segment of so many rows is made one with those behind it, which has `whole` rows then: where it has at most a
+// fifteenth of these, or half of these once the segment is about as large as it may be.
+fn is_joined(rows: usize, behind: usize, whole: usize, most: usize) -> bool {
+    whole <= most
+        && (rows.saturating_mul(SIDE_BY_SIDE) <= behind
+            || (rows <= behind && most <= whole.saturating_mul(2)))
+}
+
 /// Where the segments begin that are to be made one with so many rows behind them, and how many rows that
-/// one has: at the first that has at most a fifteenth of the rows behind it. So of segments alike at most
-/// fifteen stand side by side, a row is copied at most once for each time that its segment becomes sixteen
-/// times as large, and what all versions of a graph keep together is little more than the last.
-pub(crate) fn small_from(segments: &[Arc<Segment>], count: usize) -> (usize, usize)
+/// one has, in a graph of `total` rows: at the first that is small beside the rows behind it, and with them has at most a
+/// small part of the graph. So of segments alike at most fifteen stand side by side, but for the large ones, of which a
+/// graph has some two hundred at most each time that it grows to twice its size; a row is copied at most once for each time
+/// that its segment becomes sixteen times as large, and once more; and what all versions of a graph keep together is little
+/// more than the last.
+pub(crate) fn small_from(segments: &[Arc<Segment>], count: usize, total: usize) -> (usize, usize)
     ensures { result.0 ≤ length segments.now }
 {
+    let most = (total / PARTS).max(LEAST);
     let mut place = (segments.len(), count);
     let mut behind = count;
     let mut index = segments.len();
@@ -78,7 +95,7 @@ pub(crate) fn small_from(segments: &[Arc<Segment>], count: usize) -> (usize, usi
         index -= 1;
         let rows = segments[index].len();
         let whole = behind.saturating_add(rows);
-        if rows.saturating_mul(SIDE_BY_SIDE) <= behind {
+        if is_joined(rows, behind, whole, most) {
             place = (index, whole);
         }
         behind = whole;
