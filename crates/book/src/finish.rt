@@ -33,15 +33,37 @@ fn is_by(found: Option<u64>, by: u64) -> bool
     }
 }
 
-// One more snapshot, of which at most so many are kept: the oldest goes.
-fn keep(kept: &mut Vec<Arc<Snapshot>>, snapshot: Arc<Snapshot>, most: usize)
+/// What a book keeps no longer once a job was handed in: the oldest snapshot, or what the build worked on. To give
+/// a large one back takes milliseconds, so whoever holds the book hands this out of his turn and drops it behind it.
+#[derive(Drop)]
+pub struct Gone {
+    snapshot: Option<Arc<Snapshot>>,
+    build: Option<Open>,
+}
+
+// Nothing is gone.
+fn none() -> Gone {
+    Gone {
+        snapshot: None,
+        build: None,
+    }
+}
+
+// One more snapshot, of which at most so many are kept: the oldest goes, and comes out.
+fn keep(
+    kept: &mut Vec<Arc<Snapshot>>,
+    snapshot: Arc<Snapshot>,
+    most: usize,
+) -> Option<Arc<Snapshot>>
     requires { vec_len kept.old < vec_capacity kept.old }
     ensures items { kept.new.items ≡ trimmed most (kept.old.items ++ snapshot ∷ []) }
     ensures capacity { vec_capacity kept.new ≡ vec_capacity kept.old }
 {
     kept.push_reserved(snapshot);
     if most < kept.len() {
-        let _gone = kept.remove(0);
+        Some(kept.remove(0))
+    } else {
+        None
     }
 }
 
@@ -78,7 +100,14 @@ impl Book {
     }
 
     // The plan of the build that is open was handed in: its pieces are to be done.
-    fn planned(&mut self, by: u64, build: u64, upto: u64, plan: Arc<Plan>, places: Vec<Place>)
+    fn planned(
+        &mut self,
+        by: u64,
+        build: u64,
+        upto: u64,
+        plan: Arc<Plan>,
+        places: Vec<Place>,
+    ) -> Gone
         requires given { by < self.old.callers }
         requires out { owner self.old (only build upto kinds.Plan) ≡ Some by }
         requires named { plan_upto (arc_value plan) ≡ upto }
@@ -94,6 +123,10 @@ impl Book {
             stage: stage_of(Pieces::new(plan, places)),
             owner: None,
         });
+        Gone {
+            snapshot: None,
+            build: Some(open),
+        }
     }
 
     // A piece of the build that is open was handed in.
@@ -115,18 +148,24 @@ impl Book {
     }
 
     // The snapshot of the build that is open was handed in: it is published.
-    fn publish(&mut self, by: u64, build: u64, upto: u64, snapshot: Arc<Snapshot>) -> Progress
+    fn publish(
+        &mut self,
+        by: u64,
+        build: u64,
+        upto: u64,
+        snapshot: Arc<Snapshot>,
+    ) -> (Progress, Gone)
         requires given { by < self.old.callers }
         requires out { owner self.old (only build upto kinds.Assemble) ≡ Some by }
         requires holds { StandsIn (λ base imports. StandsFor (arc_value snapshot) imports) build upto self.old.history }
-        ensures { PublishesAt by upto self.old result self.new }
+        ensures { PublishesAt by upto self.old result.0 self.new }
     {
         let Some(open) = self.build.take() else {
             unreachable!()
         };
         let entry = self.entries.len() as u64;
         self.entries.push_reserved(Entry::Publish { by, upto });
-        keep(&mut self.kept, snapshot, self.settings.keep as usize);
+        let oldest = keep(&mut self.kept, snapshot, self.settings.keep as usize);
         let newest = self.counts.newest + 1;
         self.counts = Counts {
             imports: self.counts.imports,
@@ -135,10 +174,15 @@ impl Book {
             published: upto,
             after: open.place,
         };
-        Progress::Published {
+        let progress = Progress::Published {
             entry,
             snapshot: newest,
-        }
+        };
+        let gone = Gone {
+            snapshot: oldest,
+            build: Some(open),
+        };
+        (progress, gone)
     }
 
     // The answer where the job isn't out to the caller.
@@ -151,11 +195,11 @@ impl Book {
     }
 
     /// Hands in what a job came to. The last job of a build publishes it; the journal and the list of
-    /// snapshots have room for that, so no memory is taken.
-    pub fn finish(&mut self, by: u64, finished: Finished) -> Result<Progress, Strange>
+    /// snapshots have room for that, so no memory is taken. What the book keeps no longer comes out with the answer.
+    pub fn finish(&mut self, by: u64, finished: Finished) -> (Result<Progress, Strange>, Gone)
         requires given { by < self.old.callers }
         requires holds { FinishedHolds outcome IsDone finished self.old.history }
-        ensures { Finishes by (outcome finished) self.old result self.new }
+        ensures { Finishes by (outcome finished) self.old result.0 self.new }
     {
         match finished {
             Finished::Plan {
@@ -166,10 +210,10 @@ impl Book {
                 let upto = plan.upto();
                 let found = self.owner_of(build, upto, Part::Plan);
                 if !is_by(found, by) {
-                    return Err(self.strange(by, build, found));
+                    return (Err(self.strange(by, build, found)), none());
                 }
-                self.planned(by, build, upto, plan, places);
-                Ok(Progress::Going)
+                let gone = self.planned(by, build, upto, plan, places);
+                (Ok(Progress::Going), gone)
             }
             Finished::Piece {
                 build,
@@ -179,18 +223,19 @@ impl Book {
             } => {
                 let found = self.owner_of(build, upto, Part::Piece(number));
                 if !is_by(found, by) {
-                    return Err(self.strange(by, build, found));
+                    return (Err(self.strange(by, build, found)), none());
                 }
                 self.put(by, build, upto, number, set);
-                Ok(Progress::Going)
+                (Ok(Progress::Going), none())
             }
             Finished::Assemble { build, snapshot } => {
                 let upto = snapshot.upto();
                 let found = self.owner_of(build, upto, Part::Assemble);
                 if !is_by(found, by) {
-                    return Err(self.strange(by, build, found));
+                    return (Err(self.strange(by, build, found)), none());
                 }
-                Ok(self.publish(by, build, upto, snapshot))
+                let (progress, gone) = self.publish(by, build, upto, snapshot);
+                (Ok(progress), gone)
             }
         }
     }

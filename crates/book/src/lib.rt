@@ -22,4 +22,5 @@ mod repos;
 mod stored;
 
 pub use entry::Entry;
+pub use finish::Gone;
 pub use ledger::Book;

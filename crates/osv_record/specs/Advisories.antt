@@ -1,5 +1,6 @@
 -- Advisories (OSV schema 1.6).
 use Rattle.std.specs.Prelude.{◌≡◌, ℕ, ◌+◌, Bool, true, false, List, [], ◌∷◌, Option, is_some, ℤ, count_by}
+use Rattle.std.specs.List.{list_any}
 use Rattle.osv_prim.specs.declared.event.Event.{Event}
 use Rattle.osv_prim.specs.declared.event.RangeKind.{RangeKind}
 use Rattle.osv_prim.specs.declared.event.RangeKind.TheVariants.{SemVer, Ecosystem, Git}
@@ -42,3 +43,11 @@ git_ranges_of ranges = count_by (λ (r : Extent). is_git r.kind) ranges
 abbrev pub git_ranges : List Entry → ℕ
 git_ranges [] = 0
 git_ranges (a ∷ rest) = git_ranges_of a.ranges + git_ranges rest
+
+-- some range has a repository
+abbrev pub has_repo : List Extent → Bool
+has_repo ranges = list_any (λ (r : Extent). is_some r.repo) ranges
+
+-- some range of these entries has
+abbrev pub has_repos : List Entry → Bool
+has_repos entries = list_any (λ (a : Entry). has_repo a.ranges) entries

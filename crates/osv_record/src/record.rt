@@ -1,13 +1,13 @@
-ghost use Rattle.std.specs.Prelude.{◌≡◌, ◌≢◌, ◌<◌, ◌≤◌, ◌+◌, ◌^◌, Ok, Err, IfOk, IfErr, IfSome, IfNone, map, length};
+ghost use Rattle.std.specs.Prelude.{◌≡◌, ◌≢◌, ◌<◌, ◌≤◌, ◌+◌, ◌^◌, Ok, Err, IfOk, IfErr, IfSome, IfNone, is_some, false, map, length};
 ghost use Rattle.osv_prim.specs.declared.stop.Stop.TheVariants.{Refused};
-ghost use Rattle.osv_record.specs.Advisories.{git_ranges, git_ranges_of, is_git};
+ghost use Rattle.osv_record.specs.Advisories.{git_ranges, git_ranges_of, has_repo, has_repos, is_git};
 ghost use Rattle.osv_record.specs.Parts.{of_parts};
 
 use crate::fault::RecordFault;
 use crate::range::Range;
 use crate::reading::{Parts, record_from, record_keeping};
 use json_view::Buffers;
-use osv_prim::{Bytes, Id, List, Lists, Memory, PackageKey, RangeKind, Stop, Text};
+use osv_prim::{Bytes, Id, List, Lists, Memory, PackageKey, Stop, Text};
 use std::alloc::Global;
 use std::marker::Model;
 
@@ -73,17 +73,19 @@ pub struct Record {
     pub affected: List<Affected>,
     /// The bytes of the whole advisory, as they came in.
     pub text: Bytes,
+    // How many GIT ranges its entries have.
+    git_count: u32,
 }
 
 impl Model for Record {
-    ghost use Rattle.std.specs.Prelude.{◌<◌, ◌^◌, length};
-    ghost use Rattle.osv_record.specs.Advisories.{Advisory, git_ranges};
+    ghost use Rattle.std.specs.Prelude.{◌≡◌, ◌<◌, ◌^◌, length, false};
+    ghost use Rattle.osv_record.specs.Advisories.{Advisory, git_ranges, has_repos};
 
     ghost Value = { Advisory };
 
     ghost view = { λ r. record { id = r.id; modified = r.modified; modified_text = r.modified_text; withdrawn = r.withdrawn; affected = r.affected; text = r.text } };
 
-    ghost invariant = { λ r. (length r.affected < 2 ^ 32) × (git_ranges r.affected < 2 ^ 32) };
+    ghost invariant = { λ r. (length r.affected < 2 ^ 32) × (git_ranges r.affected < 2 ^ 32) × (r.git_count ≡ git_ranges r.affected) × (r.git_count ≡ 0 → has_repos r.affected ≡ false) };
 }
 
 impl Record {
@@ -130,19 +132,18 @@ impl Record {
                 withdrawn: parts.withdrawn,
                 affected: parts.affected,
                 text,
+                git_count: count as u32,
             }),
             _ => Err(Memory),
         }
     }
 
-    /// How many GIT ranges its entries have.
+    /// How many GIT ranges its entries have. No entry is read for it.
     pub fn git_ranges(&self) -> u32
-        ensures { result ≡ git_ranges self.now.affected }
+        ensures count { result ≡ git_ranges self.now.affected }
+        ensures none { result ≡ 0 → has_repos self.now.affected ≡ false }
     {
-        match git_ranges_in(self.affected.as_slice()) {
-            Some(count) => count as u32,
-            None => u32::MAX,
-        }
+        self.git_count
     }
 }
 
@@ -158,18 +159,30 @@ fn told(read: Result<Record, Stop<RecordFault>>) -> Result<Record, RecordFault>
     }
 }
 
-fn count_git(ranges: &[Range]) -> usize
-    ensures { result ≡ git_ranges_of ranges.now }
+fn is_git(range: &Range) -> bool
+    ensures kind { result ≡ is_git range.now.kind }
+    ensures repo { result ≡ is_some range.now.repo }
 {
-    ranges
-        .iter()
-        .filter(|range| matches!(range.kind, RangeKind::Git))
-        .count()
+    range.repo.is_some()
+}
+
+fn count_git(ranges: &[Range]) -> usize
+    ensures count { result ≡ git_ranges_of ranges.now }
+    ensures none { result ≡ 0 → has_repo ranges.now ≡ false }
+{
+    let mut count = 0;
+    for range in ranges {
+        if is_git(range) {
+            count += 1;
+        }
+    }
+    count
 }
 
 // None where they are more than a number of 64 bits can count.
 pub(crate) fn git_ranges_in(entries: &[Affected]) -> Option<u64>
     ensures some { IfSome result (λ n. n ≡ git_ranges entries.now) }
+    ensures zero { IfSome result (λ n. n ≡ 0 → has_repos entries.now ≡ false) }
     ensures none { IfNone result (2 ^ 64 ≤ git_ranges entries.now) }
 {
     let mut count = 0u64;

@@ -8,7 +8,7 @@ ghost use Rattle.snapshot.specs.Snapshots.{StandsFor};
 ghost use Rattle.pass_desk.specs.Turns.{AreSound, IsStep};
 ghost use Rattle.pass_desk.specs.Lasting.{call_lasts, grow_lasts, pull_lasts, finish_lasts, give_back_lasts};
 
-use book::Book;
+use book::{Book, Gone};
 use book_desk::{
     CallersSpent, GrowFault, ImportFault, Kept, Newest, Progress, Pulled, Strange, Taken,
 };
@@ -201,20 +201,20 @@ impl Call<Book> for Take {
     ghost lasts = { λ c by xs ys n m h p le. call_lasts by xs ys n m h p le };
 }
 
-/// Hands in what a job came to.
+/// Hands in what a job came to. What the book keeps no longer is handed out of the turn.
 #[derive(Drop)]
 pub struct Finish {
     pub finished: Finished,
 }
 
 impl Call<Book> for Finish {
-    type Answer = Result<Progress, Strange>;
+    type Answer = (Result<Progress, Strange>, Gone);
 
     ghost needs = { λ c by h n. MayFinish outcome IsDone c.finished by h n };
 
-    ghost does = { λ c by s a t. Finishes by (outcome c.finished) s a t × IsStep s t };
+    ghost does = { λ c by s a t. Finishes by (outcome c.finished) s a.0 t × IsStep s t };
 
-    fn act(self, by: u64, state: &mut Book) -> Result<Progress, Strange> {
+    fn act(self, by: u64, state: &mut Book) -> (Result<Progress, Strange>, Gone) {
         let _found = state.point();
         let answer = state.finish(by, self.finished);
         let _left = state.point();

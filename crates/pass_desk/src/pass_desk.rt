@@ -158,7 +158,8 @@ impl<'a, R: Wait> Desk for PassDesk<'a, R> {
     }
 
     fn finish(&mut self, finished: Finished) -> Result<Progress, Strange> {
-        let answer = self.act(Finish { finished });
+        // Nobody waits for the lock while what is gone is given back.
+        let (answer, _gone) = self.act(Finish { finished });
         self.turns = self.turns.saturating_add(1);
         answer
     }

@@ -1,17 +1,19 @@
 -- The indexes of the advisories that pass a test, and what is noted of repositories.
+use Rattle.std.specs.Prelude.{Option, Some, None, is_some}
+use Rattle.std.specs.Option.{option_map_or}
 use Rattle.std.proofs.Common.{◌≡◌, ℕ, suc, ◌+◌, ◌<◌, Bool, true, false, cond, ◌&&◌, ◌||◌, eqb, List, [], ◌∷◌, ◌++◌, length, map, take, get_or, filter, is_eq, refl, sym, ap, ◌∙◌, arith}
 use Rattle.std.specs.List.{list_any}
 use Rattle.std.specs.List.Sorted.{IsStrictlySortedBy}
 use Rattle.std.specs.Ordering.{nat_cmp}
 use Rattle.std.specs.Cmp.Lexicographic.{slice_cmp}
 use Rattle.std.specs.Str.{bytes_eq}
-use Rattle.std.proofs.lemmas.Bool.{eqb-true}
+use Rattle.std.proofs.lemmas.Bool.{eqb-true, true≢false}
 use Rattle.std.proofs.lemmas.List.{map-append, take_more, length-map, length-take}
 use Rattle.std.proofs.lemmas.List.Folds.{list_any-append}
 use Rattle.std.proofs.lemmas.Map.Text.{is_eq-slice_cmp}
-use Rattle.osv_record.specs.Advisories.{Advisory}
+use Rattle.osv_record.specs.Advisories.{Advisory, Entry, Extent, has_repo, has_repos}
 use Rattle.package_index.proofs.Rising.{less, AllAbove}
-use Rattle.repo_index.specs.Listing.{has_on, has_on_any, passes_from, indexes_from}
+use Rattle.repo_index.specs.Listing.{is_on, has_on, has_on_any, passes_from, indexes_from}
 use Rattle.repo_index.specs.Index.{has, noted, found, IsIndexOf}
 
 -- ---- the indexes ascend
@@ -134,3 +136,29 @@ any-found repo_of index rs is i [] = refl
 any-found repo_of index rs is i (x ∷ xs) =
     ap (λ (b : Bool). b || list_any (λ x. has (found index (repo_of x)) i) xs) (is (repo_of x) i)
     ∙ ap (λ (b : Bool). passes_from (has_on (repo_of x)) 0 rs i || b) (any-found repo_of index rs is i xs)
+
+-- ---- an advisory without a repository
+
+neither : (a b : Bool) → (a || b) ≡ false → (a ≡ false) × (b ≡ false)
+neither true b e = absurd (true≢false e)
+neither false b e = (refl, e)
+
+none-of : {X : Type 0} (p q : X → Bool) → ((x : X) → p x ≡ false → q x ≡ false) → (xs : List X) → list_any p xs ≡ false → list_any q xs ≡ false
+none-of p q f [] e = refl
+none-of p q f (x ∷ xs) e =
+    let parts = neither (p x) (list_any p xs) e in
+    ap (λ (b : Bool). b || list_any q xs) (f x parts.0) ∙ none-of p q f xs parts.1
+
+not-on : (repo : List ℕ) (own : Option (List ℕ)) → is_some own ≡ false → option_map_or (λ key. bytes_eq key repo) own false ≡ false
+not-on repo None e = refl
+not-on repo (Some key) e = absurd (true≢false e)
+
+pub none-on : (repo : List ℕ) (r : Advisory) → has_repos r.affected ≡ false → has_on repo r ≡ false
+none-on repo r none =
+    none-of (λ (a : Entry). has_repo a.ranges) (λ (a : Entry). list_any (is_on repo) a.ranges)
+    (λ a own. none-of (λ (x : Extent). is_some x.repo) (is_on repo) (λ x e. not-on repo x.repo e) a.ranges own) r.affected none
+
+pub unchanged : (a b c : Bool) → b ≡ false → a ≡ (a || (b && c))
+unchanged true b c e = refl
+unchanged false true c e = absurd (true≢false e)
+unchanged false false c e = refl

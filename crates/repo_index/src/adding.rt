@@ -8,8 +8,22 @@ use osv_prim::{Memory, RepoKey};
 use osv_record::{Affected, Range, Record};
 use std::alloc::Global;
 
-/// Notes the repositories of an advisory's GIT ranges, one for each range.
+/// Notes the repositories of an advisory's GIT ranges, one for each range. Where it has none its entries are not read.
 pub(crate) fn add_record(
+    alloc: Global,
+    entries: &mut Vec<(RepoKey, u32)>,
+    advisory: &Record,
+    index: u32,
+) -> Result<(), Memory>
+    ensures { OnOk result ((repo : List ℕ) (i : ℕ) → noted entries.new.items repo i ≡ (noted entries.old.items repo i || (has_on repo advisory.now && (index == i)))) }
+{
+    if advisory.git_ranges() == 0 {
+        return Ok(());
+    }
+    add_each(alloc, entries, advisory, index)
+}
+
+fn add_each(
     alloc: Global,
     entries: &mut Vec<(RepoKey, u32)>,
     advisory: &Record,

@@ -1,13 +1,16 @@
 ghost use Rattle.std.specs.Prelude.{◌≡◌, ◌<◌, IfOk, OnErr, None, is_some, slice_index_or, slice_set, vec_len};
+ghost use Rattle.book_model.specs.Jobs.{FinishedHolds};
+ghost use Rattle.book_model.specs.Steps.{Finishes};
+ghost use Rattle.snapshot.specs.Jobs.{outcome, IsDone};
 ghost use Rattle.schedule.specs.Machine.{DoesPull, DoesTake, DoesWork, DoesBack};
 ghost use Rattle.schedule.specs.Holding.{machine, EndsOne, IsHolding};
 
 use crate::step::{Answer, PlayFault};
 use book::Book;
-use book_desk::{Progress, Pulled, Taken};
+use book_desk::{Progress, Pulled, Strange, Taken};
 use gate::OpenGate;
 use osv_prim::{Ledger, Memory, Steps};
-use snapshot::{Job, do_job};
+use snapshot::{Finished, Job, do_job};
 use std::alloc::Global;
 
 // The caller has a job.
@@ -98,7 +101,7 @@ pub(crate) fn work<L: Ledger>(
         unreachable!()
     };
     match do_job(alloc, job, &OpenGate, steps) {
-        Ok(finished) => match book.finish(by, finished) {
+        Ok(finished) => match handed_in(book, by, finished) {
             Ok(Progress::Going) => Ok(Answer::Going),
             Ok(Progress::Published { snapshot, .. }) => Ok(Answer::Published(snapshot)),
             Err(_) => unreachable!(),
@@ -108,6 +111,16 @@ pub(crate) fn work<L: Ledger>(
             Err(Memory)
         }
     }
+}
+
+// Hands in what a job came to; what the book keeps no longer is dropped here.
+fn handed_in(book: &mut Book, by: u64, finished: Finished) -> Result<Progress, Strange>
+    requires given { by < book.old.callers }
+    requires holds { FinishedHolds outcome IsDone finished book.old.history }
+    ensures { Finishes by (outcome finished) book.old result book.new }
+{
+    let (answer, _gone) = book.finish(by, finished);
+    answer
 }
 
 /// Hands the caller's job back.

@@ -12,6 +12,6 @@ mod rest;
 mod service;
 mod shared;
 
-pub use lane::{MOST_FAILED, MOST_JOBS, serve_connection};
+pub use lane::{FEW_JOBS, MOST_FAILED, MOST_JOBS, serve_connection};
 pub use rest::RestGate;
 pub use service::{Crew, serve};

@@ -55,6 +55,7 @@ pub fn serve<L: Listener, G: Gate, R: Threads + Wait + Sync>(
         lock: &lock,
         settings,
         gate,
+        helpers: crew.helpers,
         stop: &stop,
         running: &running,
     };

@@ -26,6 +26,8 @@ pub(crate) struct Shared<'a, R, G> {
     pub(crate) lock: &'a TurnLock<Book>,
     pub(crate) settings: &'a Settings,
     pub(crate) gate: &'a G,
+    // How many helpers there are to be.
+    pub(crate) helpers: u64,
     pub(crate) stop: &'a AtomicBool,
     pub(crate) running: &'a AtomicU64,
 }
@@ -69,6 +71,7 @@ fn run_counted<L: Listener, G: Gate, R: Wait, C: Ledger>(
             listener,
             shared.gate,
             shared.settings,
+            shared.helpers,
             &mut steps,
         ),
         Err(_) => turn_away(shared.rt, listener),

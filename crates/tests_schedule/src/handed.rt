@@ -25,7 +25,7 @@ pub fn by_another<L: Ledger>(
     let goal = book.imports();
     match book.pull(first, goal)? {
         Pulled::Job(job) => match do_job(alloc, job, &OpenGate, steps) {
-            Ok(finished) => match book.finish(second, finished) {
+            Ok(finished) => match book.finish(second, finished).0 {
                 Ok(_) => Ok(String::from_str(alloc, "taken")?),
                 Err(strange) => Ok(format!(in alloc; "strange: {strange:?}")?),
             },

@@ -5,7 +5,7 @@ use Rattle.osv_record.specs.Advisories.{Advisory, Entry}
 use Rattle.repo_index.specs.Index.{noted}
 use Rattle.repo_index.specs.Listing.{is_on}
 use Rattle.package_index.proofs.Matching.{more-entries, any-more}
-use Rattle.repo_index.proofs.adding.add_record.Goals as goal
+use Rattle.repo_index.proofs.adding.add_each.Goals as goal
 
 pub loop-entry-preserved : goal.loop-entry-preserved
 loop-entry-preserved c repo i =

@@ -3,7 +3,7 @@ use Rattle.std.specs.List.{list_any}
 use Rattle.osv_record.specs.Advisories.{Entry}
 use Rattle.repo_index.specs.Index.{noted}
 use Rattle.repo_index.specs.Listing.{is_on}
-use Rattle.repo_index.proofs.adding.add_record.Given as goal
+use Rattle.repo_index.proofs.adding.add_each.Given as goal
 
 abbrev pub invariant-loop-entry : goal.invariant-loop-entry
 invariant-loop-entry l =
