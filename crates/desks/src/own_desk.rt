@@ -144,7 +144,7 @@ impl Desk for OwnDesk {
 
     fn finish(&mut self, finished: Finished) -> Result<Progress, Strange> {
         let found = self.book.note();
-        let (answer, _gone) = self.book.finish(0, finished);
+        let answer = self.book.finish(0, finished).0;
         self.turn(found);
         self.turns = self.turns.saturating_add(1);
         answer

@@ -7,7 +7,7 @@ ghost use Rattle.pass_desk.specs.Passes.{HasEntered, IsRefused, HasLeft};
 use crate::calls::{
     CountImports, Enrol, Finish, GiveBack, Grow, Import, Look, Pull, ShowRepo, Take,
 };
-use book::Book;
+use book::{Book, Gone};
 use book_desk::{
     CallersSpent, Desk, GrowFault, ImportFault, Kept, Newest, Progress, Pulled, Strange, Taken,
 };
@@ -94,6 +94,13 @@ impl<'a, R: Wait> PassDesk<'a, R> {
     }
 }
 
+// The answer of a turn. What is gone is dropped here, behind the turn, so that nobody waits for it.
+fn answer_of(handed: (Result<Progress, Strange>, Gone)) -> Result<Progress, Strange>
+    ensures { result ≡ handed.0 }
+{
+    handed.0
+}
+
 impl<'a, R: Wait> Desk for PassDesk<'a, R> {
     ghost use Rattle.book_model.specs.Desk.{Caller};
 
@@ -158,10 +165,9 @@ impl<'a, R: Wait> Desk for PassDesk<'a, R> {
     }
 
     fn finish(&mut self, finished: Finished) -> Result<Progress, Strange> {
-        // Nobody waits for the lock while what is gone is given back.
-        let (answer, _gone) = self.act(Finish { finished });
+        let handed = self.act(Finish { finished });
         self.turns = self.turns.saturating_add(1);
-        answer
+        answer_of(handed)
     }
 
     fn give_back(&mut self, job: Job) -> Result<(), Strange> {
