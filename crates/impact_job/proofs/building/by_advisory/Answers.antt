@@ -26,7 +26,7 @@ loop-advisory-preserved c =
     let front : List Advisory = map (λ a. arc_value a) (take i c.args.advisories.now) in
     let rest : List Advisory = map (λ a. arc_value a) (drop (i + 1) c.args.advisories.now) in
     let next = front-next (λ a. arc_value a) c.args.advisories.now i c.advisory-item.result c.loop-advisory-test.true c.advisory-item.is in
-    let count = c.git_ranges-count.ensures ∙ ap (λ (a : Advisory). git_ranges a.affected) c.deref.ensures in
+    let count = c.git_ranges-count.ensures.count ∙ ap (λ (a : Advisory). git_ranges a.affected) c.deref.ensures in
     let has : AllZip HasSet c.parted.result.1.now c.parted-in-loop-advisory.result.1.now =
     subst (λ (ts : List Todo). AllZip HasSet ts c.parted-in-loop-advisory.result.1.now) (sym c.parted.ensures.later)
     (subst (λ vs. AllZip HasSet (drop n c.loop-advisory.rest.now) vs) (sym c.parted-in-loop-advisory.ensures.later) (both-drop HasSet n c.loop-advisory.rest.now c.loop-advisory.rest_made.now m.0))
