@@ -6,4 +6,5 @@ pub mod Backward
 pub mod LetThrough
 pub mod Members
 pub mod Setting
+pub mod Blocks
 pub mod Naming

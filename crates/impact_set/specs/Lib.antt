@@ -1,3 +1,4 @@
 pub mod Bits
+pub mod Digests
 pub mod Standing
 pub mod Passing

@@ -7,6 +7,7 @@
 
 mod before;
 mod bits;
+mod digest;
 pub mod laws;
 mod limits;
 mod named;

@@ -7,6 +7,7 @@ ghost use Rattle.impact_set.specs.Standing.{lets_row_through, through_of};
 
 use crate::before::before_rows;
 use crate::bits::Bits;
+use crate::digest::Digested;
 use commit_graph::Graph;
 use git_range::{all_read, has_limit, names_all};
 use osv_prim::{Event, EventKind, Ledger, Memory, Steps};
@@ -17,11 +18,11 @@ use std::alloc::Global;
 pub(crate) fn let_through_rows<L: Ledger>(
     alloc: Global,
     first: usize,
-    old: &Option<Bits>,
+    old: &Option<Digested>,
     events: &[Event],
     graph: &Graph,
     steps: &mut Steps<L>,
-) -> Result<Option<Bits>, Memory>
+) -> Result<Option<Digested>, Memory>
     requires within { first ≤ length graph.now }
     requires old { AreRows first (through_of first old.now) (lets_row_through events.now (take first graph.now)) }
     ensures through { IfOk result (λ v. AreRows (length graph.now) (through_of (length graph.now) v) (lets_row_through events.now graph.now)) }
@@ -33,14 +34,15 @@ pub(crate) fn let_through_rows<L: Ledger>(
     let count = graph.len() as usize;
     if !all_read(events) {
         let none = Bits::none(alloc, count)?;
-        return Ok(Some(none));
+        let digested = Digested::of(alloc, none)?;
+        return Ok(Some(digested));
     }
     if !has_limit(events) || names_all(EventKind::Limit, events) {
         return Ok(None);
     }
     match old {
         Some(old) => {
-            let marks = limited_rows(alloc, first, old, events, graph, steps)?;
+            let marks = limited_rows(alloc, first, old.bits(), events, graph, steps)?;
             Ok(Some(marks))
         }
         None => {
@@ -59,7 +61,7 @@ fn limited_rows<L: Ledger>(
     events: &[Event],
     graph: &Graph,
     steps: &mut Steps<L>,
-) -> Result<Bits, Memory>
+) -> Result<Digested, Memory>
     requires read { list_all is_read events.now ≡ true }
     requires limited { has_limit events.now ≡ true }
     requires bound { names_all Limit events.now ≡ false }
@@ -73,7 +75,8 @@ fn limited_rows<L: Ledger>(
     // Its contract tells that the graph is legal.
     let _ = graph.len();
     let marks = before_rows(alloc, old, events, graph, steps)?;
-    Ok(marks)
+    let digested = Digested::of(alloc, marks)?;
+    Ok(digested)
 }
 
 // Every row is let through.
@@ -89,7 +92,7 @@ fn all_through(alloc: Global, count: usize) -> Result<Bits, Memory>
 }
 
 /// Whether the commit with this number is let through.
-pub(crate) fn lets_through(rows: &Option<Bits>, number: usize) -> bool
+pub(crate) fn lets_through(rows: &Option<Digested>, number: usize) -> bool
     requires { MatchOption rows.now (Unit {0}) (λ b. number < length b) }
     ensures { (count : ℕ) → number < count → result ≡ slice_index_or (through_of count rows.now) number false }
 {

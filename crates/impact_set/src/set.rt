@@ -5,6 +5,7 @@ ghost use Rattle.git_range.specs.Affected.{is_affected};
 ghost use Rattle.impact_set.specs.Standing.{StandsFor, is_member};
 
 use crate::bits::Bits;
+use crate::digest::Digested;
 use crate::limits::{let_through_rows, lets_through};
 use crate::reached::reached_rows;
 use commit_graph::Graph;
@@ -14,15 +15,17 @@ use std::marker::Model;
 
 /// The commits of a graph that a GIT range affects, by the numbers of their rows (OSV schema 1.6,
 /// "affected[].ranges[].events" and "Evaluation"). It keeps one bit a commit, and a second one where the
-/// range has a limit that isn't `*`. Contracts see what it knows of each commit: whether the range reaches
-/// it, and whether the limits let it through; both are needed to extend it.
+/// range has a limit that isn't `*`, and beside each a byte for each 4,096 commits: whether the bits of
+/// these commits are all unset, all set, or mixed. Only where they are mixed does a look-up read the bits.
+/// Contracts see what it knows of each commit: whether the range reaches it, and whether the limits let it
+/// through; both are needed to extend it.
 #[derive(Drop)]
 pub struct ImpactSet {
     // Whether the range reaches each commit.
-    reached: Bits,
+    reached: Digested,
     // Whether every event can be read and the limits let each commit through. There is none where each is
     // let through.
-    let_through: Option<Bits>,
+    let_through: Option<Digested>,
 }
 
 impl Model for ImpactSet {
@@ -50,8 +53,9 @@ impl ImpactSet {
         ensures steps { steps.new.graph ≤ steps.old.graph + 2 * length graph.now }
         ensures records { steps.new.record_count ≡ steps.old.record_count }
     {
+        let none = Bits::none(alloc, 0)?;
         let none = ImpactSet {
-            reached: Bits::none(alloc, 0)?,
+            reached: Digested::of(alloc, none)?,
             let_through: None,
         };
         none.extend(alloc, events, graph, steps)
@@ -76,7 +80,8 @@ impl ImpactSet {
     {
         // Its contract tells that the rows are fewer than 2^32.
         let _ = graph.len();
-        let reached = reached_rows(alloc, &self.reached, events, graph, steps)?;
+        let reached = reached_rows(alloc, self.reached.bits(), events, graph, steps)?;
+        let digested = Digested::grown(alloc, &self.reached, reached)?;
         let let_through = let_through_rows(
             alloc,
             self.reached.len(),
@@ -86,7 +91,7 @@ impl ImpactSet {
             steps,
         )?;
         Ok(ImpactSet {
-            reached,
+            reached: digested,
             let_through,
         })
     }

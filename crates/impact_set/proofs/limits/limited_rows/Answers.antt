@@ -1,4 +1,4 @@
-use Rattle.std.proofs.Common.{ℕ, take, sym, subst, arith}
+use Rattle.std.proofs.Common.{ℕ, Bool, List, length, take, sym, subst, arith}
 use Rattle.git_range.specs.Rows.{AreRows}
 use Rattle.impact_set.specs.Standing.{lets_row_through, AreBefore}
 use Rattle.impact_set.proofs.Prefixes.{length-first, legal-first}
@@ -16,10 +16,16 @@ before_rows-requires-clause-old g c =
 
 pub returns-clause-through : goal.returns-clause-through
 returns-clause-through g c =
-    before-through c.args.graph.now c.len.ensures.legal c.args.events.now c.requires.read c.requires.limited c.requires.bound c.in_ok-marks.marks c.in_ok-marks.ensures.before
+    let graph = c.args.graph.now in
+    let events = c.args.events.now in
+    subst (λ (bs : List Bool). AreRows (length graph) bs (lets_row_through events graph)) (sym c.in_ok-digested.ensures)
+    (before-through graph c.len.ensures.legal events c.requires.read c.requires.limited c.requires.bound c.in_ok-marks.marks c.in_ok-marks.ensures.before)
 
 pub returns-in_err-marks-clause-few : goal.returns-in_err-marks-clause-few
 returns-in_err-marks-clause-few g c none = c.before_rows.ensures.few (λ k le lt. none k (omega (arith, le, c.requires.old.size)) lt)
+
+pub returns-in_err-digested-clause-few : goal.returns-in_err-digested-clause-few
+returns-in_err-digested-clause-few g c none = c.before_rows.ensures.few (λ k le lt. none k (omega (arith, le, c.requires.old.size)) lt)
 
 pub returns-clause-few : goal.returns-clause-few
 returns-clause-few g c none = c.before_rows.ensures.few (λ k le lt. none k (omega (arith, le, c.requires.old.size)) lt)
