@@ -142,14 +142,14 @@ fn reply_of<L: Ledger>(
 }
 
 // The page of each query, or the first refusal.
-fn pages<L: Ledger>(
+fn pages<'a, L: Ledger>(
     alloc: Global,
     queries: &[Query],
-    newest: &Newest,
-    found: &[Kept],
+    newest: &'a Newest,
+    found: &'a [Kept],
     size: u32,
     steps: &mut Steps<L>,
-) -> Result<Vec<Answer>, Stop<Refusal>>
+) -> Result<Vec<Answer<'a>>, Stop<Refusal>>
     requires { length queries.now < 2 ^ 32 }
     ensures { (keep : ℕ) (h : History) → AreFound keep h queries.now newest.now found.now → Gives (λ v. map answer_in v.items) result (answers_to keep size h queries.now) }
 {
@@ -171,15 +171,15 @@ fn pages<L: Ledger>(
 }
 
 // The page of the query with an index, or why there is none.
-fn page_at<L: Ledger>(
+fn page_at<'a, L: Ledger>(
     alloc: Global,
     query: &Query,
     index: u32,
-    newest: &Newest,
-    kept: &Kept,
+    newest: &'a Newest,
+    kept: &'a Kept,
     size: u32,
     steps: &mut Steps<L>,
-) -> Result<Answer, Stop<Refusal>>
+) -> Result<Answer<'a>, Stop<Refusal>>
     ensures { (keep : ℕ) (h : History) → IsNewest h newest.now → Finds keep h (number_in query.now) kept.now → Gives answer_in result (answer_at keep size h (index, query.now)) }
 {
     match shown_at(query, index, newest, kept) {

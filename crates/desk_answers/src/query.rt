@@ -1,7 +1,7 @@
 ghost use Rattle.std.specs.Prelude.{◌≡◌, List, IfOk};
 ghost use Rattle.history.specs.declared.past.Past.{Past};
 ghost use Rattle.reply_json.specs.Answers.{answer_body, answer_in};
-ghost use Rattle.snapshot.specs.Pages.{page, page_seen};
+ghost use Rattle.snapshot.specs.Pages.{found_seen, page};
 ghost use Rattle.snapshot.specs.Snapshots.{StandsFor};
 ghost use Rattle.session_model.specs.Looks.{after_of, named_by, page_of, query_reply};
 ghost use Rattle.session_model.specs.Replies.{snapshot_reply};
@@ -21,7 +21,7 @@ use page_token::Token;
 use query_json::{BatchFault, Query, QueryFault, read_query_in};
 use reply_json::{Answer, Refusal, answer_body};
 use session_model::Sign;
-use snapshot::{Page, Snapshot};
+use snapshot::{Found, Snapshot};
 use std::alloc::Global;
 
 /// Answers a query, with so many hits at most.
@@ -96,35 +96,35 @@ fn reply_of<L: Ledger>(
 }
 
 /// The page of a query, of a snapshot that has this number.
-pub(crate) fn page<L: Ledger>(
+pub(crate) fn page<'a, L: Ledger>(
     alloc: Global,
-    snapshot: &Snapshot,
+    snapshot: &'a Snapshot,
     number: u64,
     query: &Query,
     size: u32,
     steps: &mut Steps<L>,
-) -> Result<Answer, Memory>
+) -> Result<Answer<'a>, Memory>
     ensures { (p : List Past) → StandsFor snapshot.now p → IfOk result (λ a. answer_in a ≡ page_of size p number query.now) }
 {
-    let page = hits(alloc, snapshot, query, size, steps)?;
+    let found = hits(alloc, snapshot, query, size, steps)?;
     Ok(Answer {
         snapshot: number,
-        found: page.found,
-        more: page.more,
+        found: found.hits,
+        more: found.more,
     })
 }
 
-fn hits<L: Ledger>(
+fn hits<'a, L: Ledger>(
     alloc: Global,
-    snapshot: &Snapshot,
+    snapshot: &'a Snapshot,
     query: &Query,
     size: u32,
     steps: &mut Steps<L>,
-) -> Result<Page, Memory>
-    ensures { (p : List Past) → StandsFor snapshot.now p → IfOk result (λ g. page_seen g ≡ page p query.now.subject (after_of query.now.page) size) }
+) -> Result<Found<'a>, Memory>
+    ensures { (p : List Past) → StandsFor snapshot.now p → IfOk result (λ g. found_seen g ≡ page p query.now.subject (after_of query.now.page) size) }
 {
     match &query.page {
-        None => snapshot.answer(alloc, &query.subject, None, size, steps),
-        Some(token) => snapshot.answer(alloc, &query.subject, Some(&token.after), size, steps),
+        None => snapshot.look(alloc, &query.subject, None, size, steps),
+        Some(token) => snapshot.look(alloc, &query.subject, Some(&token.after), size, steps),
     }
 }

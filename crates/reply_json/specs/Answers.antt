@@ -54,4 +54,4 @@ batch_body answers = codes "{\"results\":[" ++ (listed (map (page_text Brief) an
 -- ---- the same, as the code keeps it
 
 abbrev pub answer_in : code.Answer → Answer
-answer_in a = record { snapshot = a.snapshot; found = map arc_value a.found.items; more = a.more }
+answer_in a = record { snapshot = a.snapshot; found = map (λ a. arc_value a.now) a.found.items; more = a.more }

@@ -10,11 +10,11 @@ use std::sync::Arc;
 
 /// What a query is answered with.
 #[derive(Drop)]
-pub struct Answer {
+pub struct Answer<'a> {
     /// The snapshot that the page is of.
     pub snapshot: u64,
     /// The advisories of the page, ascending by id.
-    pub found: Vec<Arc<Record>>,
+    pub found: Vec<&'a Arc<Record>>,
     /// Whether hits remain behind them.
     pub more: bool,
 }
@@ -56,8 +56,8 @@ fn push_advisory_behind_comma(
     push_advisory(out, form, advisory)
 }
 
-fn push_others(out: &mut Vec<u8>, form: Form, advisories: &[Arc<Record>]) -> Result<(), Memory>
-    ensures { OnOk result (out.new.items ≡ out.old.items ++ flat_map behind_comma (map (advisory_text form) (map arc_value advisories.now))) }
+fn push_others(out: &mut Vec<u8>, form: Form, advisories: &[&Arc<Record>]) -> Result<(), Memory>
+    ensures { OnOk result (out.new.items ≡ out.old.items ++ flat_map behind_comma (map (advisory_text form) (map (λ a. arc_value a.now) advisories.now))) }
 {
     let mut rest = advisories;
     while let [advisory, after @ ..] = rest {
@@ -84,7 +84,11 @@ fn push_next_page(out: &mut Vec<u8>, answer: &Answer) -> Result<(), Memory>
     ensures { OnOk result (out.new.items ≡ out.old.items ++ next_page (answer_in answer.now)) }
 {
     if answer.more {
-        push_token(out, answer.snapshot, answer.found.as_slice().last())
+        push_token(
+            out,
+            answer.snapshot,
+            answer.found.as_slice().last().copied(),
+        )
     } else {
         Ok(())
     }

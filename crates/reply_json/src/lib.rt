@@ -1,7 +1,7 @@
 //! The bodies of replies, in JSON.
 //!
 //! ```
-//! let answer = Answer { snapshot: 7, found: page.found, more: page.more };
+//! let answer = Answer { snapshot: 7, found: found.hits, more: found.more };
 //! let body = answer_body(alloc, &answer)?; // {"vulns":[..],"next_page_token":"7~GHSA-1"}
 //! let body = refusal_body(alloc, &Refusal::NoSuchId)?; // {"code":11,"message":"no such id"}
 //! ```

@@ -1,1 +1,7 @@
+pub mod Added
+pub mod AllHits
 pub mod Listing
+pub mod Noting
+pub mod Picked
+pub mod Placing
+pub mod Zipped

@@ -1,20 +1,15 @@
--- The indexes of the advisories that pass a test, and what is noted of repositories.
-use Rattle.std.specs.Prelude.{Option, Some, None, is_some}
-use Rattle.std.specs.Option.{option_map_or}
-use Rattle.std.proofs.Common.{◌≡◌, ℕ, suc, ◌+◌, ◌<◌, Bool, true, false, cond, ◌&&◌, ◌||◌, eqb, List, [], ◌∷◌, ◌++◌, length, map, take, get_or, filter, is_eq, refl, sym, ap, ◌∙◌, arith}
+-- The indexes of the advisories that pass a test.
+use Rattle.std.proofs.Common.{◌≡◌, ℕ, suc, ◌+◌, ◌<◌, Bool, true, false, cond, ◌&&◌, ◌||◌, eqb, List, [], ◌∷◌, ◌++◌, length, map, take, get_or, Less, refl, sym, ap, ◌∙◌, arith}
+use Rattle.std.specs.Prelude.{filter}
 use Rattle.std.specs.List.{list_any}
 use Rattle.std.specs.List.Sorted.{IsStrictlySortedBy}
 use Rattle.std.specs.Ordering.{nat_cmp}
-use Rattle.std.specs.Cmp.Lexicographic.{slice_cmp}
-use Rattle.std.specs.Str.{bytes_eq}
-use Rattle.std.proofs.lemmas.Bool.{eqb-true, true≢false}
+use Rattle.std.proofs.lemmas.Bool.{eqb-true}
 use Rattle.std.proofs.lemmas.List.{map-append, take_more, length-map, length-take}
 use Rattle.std.proofs.lemmas.List.Folds.{list_any-append}
-use Rattle.std.proofs.lemmas.Map.Text.{is_eq-slice_cmp}
-use Rattle.osv_record.specs.Advisories.{Advisory, Entry, Extent, has_repo, has_repos}
-use Rattle.package_index.proofs.Rising.{less, AllAbove}
-use Rattle.repo_index.specs.Listing.{is_on, has_on, has_on_any, passes_from, indexes_from}
-use Rattle.repo_index.specs.Index.{has, noted, found, IsIndexOf}
+use Rattle.osv_record.specs.Advisories.{Advisory}
+use Rattle.package_index.proofs.Rising.{has, less, AllAbove}
+use Rattle.repo_index.specs.Listing.{passes_from, indexes_from}
 
 -- ---- the indexes ascend
 
@@ -77,6 +72,51 @@ module _ (test : Advisory → Bool) where
       (ap (map advisory_of) (take_more records k item lt) ∙ map-append advisory_of (take k records) (get_or records k item ∷ []) ∙ ap (λ (x : X). first ++ advisory_of x ∷ []) (sym is))
       ∙ passes-push 0 first (advisory_of item) i ∙ ap (λ (n : ℕ). passes_from test 0 first i || (test (advisory_of item) && eqb n i)) long
 
+-- ---- some that ascend
+
+cond-above : (a x : ℕ) (b : Bool) (xs : List ℕ) → nat_cmp a x ≡ Less → AllAbove a xs → AllAbove a (cond b (x ∷ xs) xs)
+cond-above a x true xs lt all = (lt, all)
+cond-above a x false xs lt all = all
+
+filter-above : (q : ℕ → Bool) (a : ℕ) (xs : List ℕ) → AllAbove a xs → AllAbove a (filter q xs)
+filter-above q a [] all = tt
+filter-above q a (x ∷ xs) all = cond-above a x (q x) (filter q xs) all.0 (filter-above q a xs all.1)
+
+cond-rising : (x : ℕ) (b : Bool) (xs : List ℕ) → AllAbove x xs → IsStrictlySortedBy nat_cmp xs → IsStrictlySortedBy nat_cmp (cond b (x ∷ xs) xs)
+unfolding IsStrictlySortedBy
+cond-rising x true xs all up = (all, up)
+cond-rising x false xs all up = up
+
+pub filter-rising : (q : ℕ → Bool) (xs : List ℕ) → IsStrictlySortedBy nat_cmp xs → IsStrictlySortedBy nat_cmp (filter q xs)
+unfolding IsStrictlySortedBy
+filter-rising q [] up = tt
+filter-rising q (x ∷ xs) up = cond-rising x (q x) (filter q xs) (filter-above q x xs up.0) (filter-rising q xs up.1)
+
+and-no : (b : Bool) → (b && false) ≡ false
+and-no true = refl
+and-no false = refl
+
+one-more : (b e h : Bool) → ((b && e) || (b && h)) ≡ (b && (e || h))
+one-more true e h = refl
+one-more false e h = refl
+
+cond-has : (b : Bool) (x : ℕ) (xs : List ℕ) (i : ℕ) → has (cond b (x ∷ xs) xs) i ≡ ((b && eqb x i) || has xs i)
+cond-has true x xs i = refl
+cond-has false x xs i = refl
+
+-- a test of a number is one of an equal number
+moved : (q : ℕ → Bool) (x i : ℕ) (e : Bool) → eqb x i ≡ e → (q x && e) ≡ (q i && e)
+moved q x i true is = ap (λ (k : ℕ). q k && true) (eqb-true x i is)
+moved q x i false is = and-no (q x) ∙ sym (and-no (q i))
+
+pub has-filter : (q : ℕ → Bool) (xs : List ℕ) (i : ℕ) → has (filter q xs) i ≡ (q i && has xs i)
+has-filter q [] i = sym (and-no (q i))
+has-filter q (x ∷ xs) i =
+    cond-has (q x) x (filter q xs) i
+    ∙ ap (λ (b : Bool). b || has (filter q xs) i) (moved q x i (eqb x i) refl)
+    ∙ ap (λ (b : Bool). (q i && eqb x i) || b) (has-filter q xs i)
+    ∙ one-more (q i) (eqb x i) (has xs i)
+
 -- ---- one of some tests
 
 passes-never : (n : ℕ) (rs : List Advisory) (i : ℕ) → passes_from (λ r. false) n rs i ≡ false
@@ -99,66 +139,16 @@ passes-either f g n (r ∷ rs) i =
     four (f r) (g r) (eqb n i) (passes_from f (n + 1) rs i) (passes_from g (n + 1) rs i)
     ∙ ap (λ (b : Bool). ((f r || g r) && eqb n i) || b) (passes-either f g (n + 1) rs i)
 
-pub passes-any : (repos : List (List ℕ)) (rs : List Advisory) (i : ℕ) → list_any (λ repo. passes_from (has_on repo) 0 rs i) repos ≡ passes_from (has_on_any repos) 0 rs i
-passes-any [] rs i = sym (passes-never 0 rs i)
-passes-any (repo ∷ repos) rs i =
-    ap (λ (b : Bool). passes_from (has_on repo) 0 rs i || b) (passes-any repos rs i) ∙ passes-either (has_on repo) (has_on_any repos) 0 rs i
+pub passes-any : {X : Type 0} (f : X → Advisory → Bool) (xs : List X) (rs : List Advisory) (i : ℕ) → list_any (λ x. passes_from (f x) 0 rs i) xs ≡ passes_from (λ r. list_any (λ x. f x r) xs) 0 rs i
+passes-any f [] rs i = sym (passes-never 0 rs i)
+passes-any f (x ∷ xs) rs i = ap (λ (b : Bool). passes_from (f x) 0 rs i || b) (passes-any f xs rs i) ∙ passes-either (f x) (λ r. list_any (λ x. f x r) xs) 0 rs i
 
--- ---- what is noted
-
-pub noted-push : (entries : List (List ℕ × ℕ)) (key : List ℕ) (index : ℕ) (repo : List ℕ) (i : ℕ) → noted (entries ++ (key, index) ∷ []) repo i ≡ (noted entries repo i || (bytes_eq key repo && eqb index i))
-noted-push entries key index repo i =
-    list_any-append (λ (e : List ℕ × ℕ). bytes_eq e.0 repo && eqb e.1 i) entries ((key, index) ∷ []) ∙ ap (λ (b : Bool). noted entries repo i || b) (or-false (bytes_eq key repo && eqb index i))
-  where
-    or-false : (a : Bool) → (a || false) ≡ a
-    or-false true = refl
-    or-false false = refl
-
-one-member : (b : Bool) (e : List ℕ × ℕ) (es : List (List ℕ × ℕ)) (i : ℕ) → has (map (λ x. x.1) (cond b (e ∷ es) es)) i ≡ ((b && eqb e.1 i) || has (map (λ x. x.1) es) i)
-one-member true e es i = refl
-one-member false e es i = refl
-
-pub found-noted : (es : List (List ℕ × ℕ)) (repo : List ℕ) (i : ℕ) → has (found es repo) i ≡ noted es repo i
-found-noted [] repo i = refl
-found-noted (e ∷ es) repo i =
-    one-member (is_eq (slice_cmp nat_cmp e.0 repo)) e (filter (λ x. is_eq (slice_cmp nat_cmp x.0 repo)) es) i
-    ∙ ap (λ (b : Bool). (b && eqb e.1 i) || has (found es repo) i) (is_eq-slice_cmp e.0 repo) ∙ ap (λ (b : Bool). (bytes_eq e.0 repo && eqb e.1 i) || b) (found-noted es repo i)
+pub passes-same : (f g : Advisory → Bool) → ((r : Advisory) → f r ≡ g r) → (n : ℕ) (rs : List Advisory) (i : ℕ) → passes_from f n rs i ≡ passes_from g n rs i
+passes-same f g same n [] i = refl
+passes-same f g same n (r ∷ rs) i =
+    ap (λ (b : Bool). (b && eqb n i) || passes_from f (n + 1) rs i) (same r) ∙ ap (λ (b : Bool). (g r && eqb n i) || b) (passes-same f g same (n + 1) rs i)
 
 -- ---- equal numbers pass one test
 
 pub alike : (i x y : ℕ) → eqb x y ≡ true → eqb x i ≡ eqb y i
 alike i x y same = ap (λ (k : ℕ). eqb k i) (eqb-true x y same)
-
--- what an index has under some repositories
-pub any-found : {X : Type 0} (repo_of : X → List ℕ) (index : List (List ℕ × ℕ)) (rs : List Advisory) → IsIndexOf index rs → (i : ℕ) (xs : List X)
-    → list_any (λ x. has (found index (repo_of x)) i) xs ≡ list_any (λ repo. passes_from (has_on repo) 0 rs i) (map repo_of xs)
-any-found repo_of index rs is i [] = refl
-any-found repo_of index rs is i (x ∷ xs) =
-    ap (λ (b : Bool). b || list_any (λ x. has (found index (repo_of x)) i) xs) (is (repo_of x) i)
-    ∙ ap (λ (b : Bool). passes_from (has_on (repo_of x)) 0 rs i || b) (any-found repo_of index rs is i xs)
-
--- ---- an advisory without a repository
-
-neither : (a b : Bool) → (a || b) ≡ false → (a ≡ false) × (b ≡ false)
-neither true b e = absurd (true≢false e)
-neither false b e = (refl, e)
-
-none-of : {X : Type 0} (p q : X → Bool) → ((x : X) → p x ≡ false → q x ≡ false) → (xs : List X) → list_any p xs ≡ false → list_any q xs ≡ false
-none-of p q f [] e = refl
-none-of p q f (x ∷ xs) e =
-    let parts = neither (p x) (list_any p xs) e in
-    ap (λ (b : Bool). b || list_any q xs) (f x parts.0) ∙ none-of p q f xs parts.1
-
-not-on : (repo : List ℕ) (own : Option (List ℕ)) → is_some own ≡ false → option_map_or (λ key. bytes_eq key repo) own false ≡ false
-not-on repo None e = refl
-not-on repo (Some key) e = absurd (true≢false e)
-
-pub none-on : (repo : List ℕ) (r : Advisory) → has_repos r.affected ≡ false → has_on repo r ≡ false
-none-on repo r none =
-    none-of (λ (a : Entry). has_repo a.ranges) (λ (a : Entry). list_any (is_on repo) a.ranges)
-    (λ a own. none-of (λ (x : Extent). is_some x.repo) (is_on repo) (λ x e. not-on repo x.repo e) a.ranges own) r.affected none
-
-pub unchanged : (a b c : Bool) → b ≡ false → a ≡ (a || (b && c))
-unchanged true b c e = refl
-unchanged false true c e = absurd (true≢false e)
-unchanged false false c e = refl

@@ -55,7 +55,7 @@ both_true true b e = refl
 both_true false b e = absurd cc
 
 module _ (events : List Event) (g : List CommitRow) (known : Known) (c : List ℕ) (stands : StandsFor events g known) where
-  in_graph : (o : Option ℕ) → number_of g c ≡ o → option_map_or (has known) o false ≡ affects_commit c events g
+  pub in_graph : (o : Option ℕ) → number_of g c ≡ o → option_map_or (has known) o false ≡ affects_commit c events g
   in_graph None e =
       let absent : of_rows.has g c ≡ false = sym (has_number g c) ∙ ap is_some e in
       sym (ap (λ (t : Bool). t && is_affected g events c) absent)
@@ -84,7 +84,7 @@ set_hit-is p x known c key stands e =
 -- ---- the sets of ranges in turn
 
 module _ (R : GitRange → Known → Type 0) where
-  first_set : (b : Bool) (x : GitRange) (xs more : List GitRange) (s : Known) (sets : List Known) → b ≡ true → AllZip R (cond b (x ∷ xs) xs ++ more) (s ∷ sets) → R x s × AllZip R (xs ++ more) sets
+  pub first_set : (b : Bool) (x : GitRange) (xs more : List GitRange) (s : Known) (sets : List Known) → b ≡ true → AllZip R (cond b (x ∷ xs) xs ++ more) (s ∷ sets) → R x s × AllZip R (xs ++ more) sets
   first_set true x xs more s sets e h = h
   first_set false x xs more s sets e h = absurd cc
 

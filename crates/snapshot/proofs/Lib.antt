@@ -1,7 +1,6 @@
 pub mod Finding
+pub mod FirstHits
 pub mod Pages
 pub mod Joining
 pub mod Jobs
-pub mod Repos
-pub mod Zipped
 pub mod Listed

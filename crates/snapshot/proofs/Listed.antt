@@ -6,7 +6,7 @@ use Rattle.std.specs.Option.{option_map_or}
 use Rattle.std.specs.List.Sorted.{IsStrictlySortedBy, IsPartitionedBy}
 use Rattle.std.specs.Ordering.{nat_cmp}
 use Rattle.std.proofs.lemmas.Bool.{and_parts, or_cases, or_left, or_right, false≢true, lt-ltb, ltb-true, ltb-false, le-leb, lt-leb}
-use Rattle.std.proofs.lemmas.List.Elements.{filter-append}
+use Rattle.std.proofs.lemmas.List.Elements.{filter-append, All-nil, All-cons}
 use Rattle.osv_prim.specs.declared.package.PackageKey.{PackageKey}
 use Rattle.osv_record.specs.Advisories.{Advisory, Entry}
 use Rattle.osv_prim.specs.Packages.{matches}
@@ -46,6 +46,18 @@ module _ (test : Advisory → Bool) where
   indexes-both n (r ∷ front) xs =
       ap (λ (ys : List ℕ). cond (test r) (n ∷ []) [] ++ ys) (indexes-both (n + 1) front xs ∙ ap (λ (k : ℕ). indexes_from test (n + 1) front ++ indexes_from test k xs) (omega arith))
       ∙ sym (append_assoc (cond (test r) (n ∷ []) []) (indexes_from test (n + 1) front) (indexes_from test (n + length (r ∷ front)) xs))
+
+  one-passes : (P : ℕ → Type 0) (b : Bool) (n : ℕ) (rest : List ℕ) → (b ≡ true → P n) → All P rest → All P (cond b (n ∷ []) [] ++ rest)
+  one-passes P true n rest here later = All-cons P n rest (here refl) later
+  one-passes P false n rest here later = later
+
+  -- and each of them passes
+  pub indexes-pass : (none : Advisory) (front xs whole : List Advisory) (n : ℕ) → whole ≡ front ++ xs → n ≡ length front → All (λ i. test (get_or whole i none) ≡ true) (indexes_from test n xs)
+  indexes-pass none front [] whole n is at = All-nil (λ i. test (get_or whole i none) ≡ true)
+  indexes-pass none front (r ∷ xs) whole n is at =
+      let here : get_or whole n none ≡ r = ap (λ (ys : List Advisory). get_or ys n none) is ∙ ap (λ (k : ℕ). get_or (front ++ r ∷ xs) k none) at ∙ at-seam none r front xs in
+      one-passes (λ i. test (get_or whole i none) ≡ true) (test r) n (indexes_from test (n + 1) xs) (λ t. ap test here ∙ t)
+      (indexes-pass none (front ++ r ∷ []) xs whole (n + 1) (is ∙ sym (append_assoc front (r ∷ []) xs)) (omega (arith, at, length-append front (r ∷ []))))
 
   -- ---- bounds
 
@@ -104,6 +116,7 @@ module _ (test : Advisory → Bool) where
   pub indexes-end : (h : Advisory → Bool) → ((r : Advisory) → h r ≡ true → test r ≡ true) → (none : Advisory) (front above all : List Advisory) → all ≡ front ++ above
       → (indexes : List ℕ) → indexes ≡ filter (λ i. leb (length front) i) (indexes_from test 0 all)
       → All (λ i. i < length all) indexes × (filter h (map (λ i. get_or all i none) indexes) ≡ filter h above) × (length indexes ≤ length (indexes_from test 0 all))
+      × All (λ i. test (get_or all i none) ≡ true) indexes
   indexes-end h passes none front above all is indexes are =
       let n = length front in
       let here : indexes ≡ indexes_from test n above = are ∙ from-seam front above all is in
@@ -113,6 +126,7 @@ module _ (test : Advisory → Bool) where
         subst (λ (is : List ℕ). All (λ i. i < length all) is) (sym here) (indexes-within n (length all) above (omega (arith, long))),
         ap (λ (is : List ℕ). filter h (map (λ i. get_or all i none) is)) here ∙ ap (filter h) (indexes-behind none front above all n is refl) ∙ twice test h passes above,
         omega (arith, ap (λ (is : List ℕ). length is) here, ap (λ (is : List ℕ). length is) whole, length-append (indexes_from test 0 front) (indexes_from test (0 + n) above), ap (λ (k : ℕ). length (indexes_from test k above)) same),
+        subst (λ (is : List ℕ). All (λ i. test (get_or all i none) ≡ true) is) (sym here) (indexes-pass none front above all n is refl),
       )
 
 module _ (asked : PackageKey) where

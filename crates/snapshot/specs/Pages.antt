@@ -1,7 +1,8 @@
 -- Pages of hits (our own).
-use Rattle.std.specs.Prelude.{ℕ, Bool, true, List, length, take, filter, Option, Some, None, nat_lt}
+use Rattle.std.specs.Prelude.{ℕ, Bool, true, List, length, map, take, filter, Option, Some, None, nat_lt}
 use Rattle.std.specs.Ordering.{nat_cmp, is_lt}
 use Rattle.std.specs.Cmp.Lexicographic.{slice_cmp}
+use Rattle.std.specs.Arc.{arc_value}
 use Rattle.osv_prim.specs.declared.subject.Subject.{Subject}
 use Rattle.osv_record.specs.Advisories.{Advisory}
 use Rattle.evaluate.specs.Hits.{hits}
@@ -9,6 +10,7 @@ use Rattle.history.specs.declared.past.Past.{Past}
 use Rattle.history.specs.Prefixes.{advisories, graphs}
 use Rattle.impact_job.specs.Tables.{seen}
 use Rattle.snapshot.specs.declared.page.Page as kept
+use Rattle.snapshot.specs.declared.page.Found.{Found}
 
 -- its id is above this one, where one is given
 abbrev pub is_above : Option (List ℕ) → Advisory → Bool
@@ -26,6 +28,10 @@ pub record Page : Type 0 where
 
 abbrev pub page_seen : kept.Page → Page
 page_seen page = record { found = seen page.found.items; more = page.more }
+
+-- the same of a page that borrows its hits
+abbrev pub found_seen : Found → Page
+found_seen found = record { found = map (λ a. arc_value a.now) found.hits.items; more = found.more }
 
 -- the first so many of these hits
 abbrev pub cut : ℕ → List Advisory → Page

@@ -16,10 +16,10 @@ use Rattle.snapshot.specs.declared.snapshot.Snapshot.{Snapshot}
 abbrev pub snapshot_upto : Snapshot → ℕ
 snapshot_upto snapshot = (arc_value snapshot.tables).upto
 
--- the snapshot is that of these imports: its tables are, and its indexes have their advisories under each package, under each repository of a GIT range, and their ids, and it has the compiled forms of their ranges
+-- the snapshot is that of these imports: its tables are, its indexes have their advisories under each package and their ids, and the sets of their GIT ranges under each repository, and it has the compiled forms of their ranges
 pub record StandsFor (snapshot : Snapshot) (p : List Past) : Type 0 where
   pub tables : tables.StandsFor (arc_value snapshot.tables) p
   pub packages : (asked : PackageKey) → found snapshot.packages asked ≡ listed (seen (arc_value (arc_value snapshot.tables).records).items) asked
-  pub repos : repo_index.IsIndexOf snapshot.repos (seen (arc_value (arc_value snapshot.tables).records).items)
+  pub repos : repo_index.IsIndexOf snapshot.repos p
   pub ranges : AreCompiled (seen (arc_value (arc_value snapshot.tables).records).items) snapshot.ranges.items
   pub ids : IsIndexOf snapshot.ids (seen (arc_value (arc_value snapshot.tables).records).items)

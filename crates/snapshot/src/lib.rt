@@ -2,7 +2,8 @@
 //!
 //! ```
 //! let snapshot = assemble(alloc, &base, &filled)?;
-//! let page = snapshot.answer(alloc, &subject, None, 100, steps)?;
+//! let found = snapshot.look(alloc, &subject, None, 100, steps)?; // borrows its hits from the snapshot
+//! let page = snapshot.answer(alloc, &subject, None, 100, steps)?; // outlives it
 //! let advisory = snapshot.find(&id);
 //! ```
 #![tactic(auto)]
@@ -19,6 +20,6 @@ mod work;
 
 pub use assembly::assemble;
 pub use job::{Finished, Job, Place};
-pub use page::Page;
+pub use page::{Found, Page};
 pub use snapshot::Snapshot;
 pub use work::do_job;

@@ -11,10 +11,10 @@ ghost use Rattle.record_moves.specs.Moved.{IsMoved};
 ghost use Rattle.evaluate.specs.Hits.{version_hit};
 ghost use Rattle.range_hits.specs.Forms.{AreFormsOf};
 ghost use Rattle.snapshot.specs.Ranges.{AreCompiled, IsKeysOf};
-ghost use Rattle.snapshot.specs.Pages.{cut, page_seen};
+ghost use Rattle.snapshot.specs.Pages.{cut, found_seen};
 ghost use Rattle.snapshot.specs.Subjects.{is_package_hit};
 
-use crate::page::Page;
+use crate::page::Found;
 use crate::ranges::ranges_at;
 use evaluate::version_hit;
 use osv_prim::{Ledger, List, Memory, PackageKey, Steps, Text};
@@ -71,9 +71,9 @@ pub(crate) fn as_text(version: &Option<Text>) -> Option<&str>
 
 /// The first `size` hits of a package among the advisories at these indexes, of which one that isn't there is
 /// passed over. It looks no further than the first hit behind them.
-pub(crate) fn first_package_hits<L: Ledger>(
+pub(crate) fn first_package_hits<'a, L: Ledger>(
     alloc: Global,
-    records: &[Arc<Record>],
+    records: &'a [Arc<Record>],
     ranges: &[Arc<List<CompiledRange>>],
     indexes: &[u32],
     asked: &PackageKey,
@@ -81,8 +81,8 @@ pub(crate) fn first_package_hits<L: Ledger>(
     keys: &Option<AskedVersion>,
     size: u32,
     steps: &mut Steps<L>,
-) -> Result<Page, Memory>
-    ensures page { (none : Advisory) → AreCompiled (map (λ a. arc_value a) records.now) ranges.now → IsKeysOf keys.now (option_map (λ t. t.now) version.entry) → All (λ i. i < length records.now) indexes.now → IfOk result (λ page. page_seen page ≡ cut size (filter (is_package_hit asked.now (option_map (λ t. t.now) version.entry)) (map (λ i. slice_index_or (map (λ a. arc_value a) records.now) i none) indexes.now))) }
+) -> Result<Found<'a>, Memory>
+    ensures page { (none : Advisory) → AreCompiled (map (λ a. arc_value a) records.now) ranges.now → IsKeysOf keys.now (option_map (λ t. t.now) version.entry) → All (λ i. i < length records.now) indexes.now → IfOk result (λ found. found_seen found ≡ cut size (filter (is_package_hit asked.now (option_map (λ t. t.now) version.entry)) (map (λ i. slice_index_or (map (λ a. arc_value a) records.now) i none) indexes.now))) }
     ensures graph { steps.new.graph ≡ steps.old.graph }
     ensures records { steps.new.record_count ≤ steps.old.record_count + length indexes.now }
 {
@@ -96,11 +96,17 @@ pub(crate) fn first_package_hits<L: Ledger>(
             continue;
         }
         if found.len() >= size as usize {
-            return Ok(Page { found, more: true });
+            return Ok(Found {
+                hits: found,
+                more: true,
+            });
         }
-        found.push(Arc::try_clone(advisory)?)?;
+        found.push(advisory)?;
     }
-    Ok(Page { found, more: false })
+    Ok(Found {
+        hits: found,
+        more: false,
+    })
 }
 
 /// The advisory at an index, where it is there.

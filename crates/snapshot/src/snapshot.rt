@@ -8,15 +8,16 @@ ghost use Rattle.osv_prim.specs.declared.package.PackageKey.{PackageKey as Key};
 ghost use Rattle.osv_record.specs.Advisories.{Advisory};
 ghost use Rattle.package_index.specs.Listing.{listed};
 ghost use Rattle.record_moves.specs.Moved.{IsMoved};
+ghost use Rattle.repo_index.specs.Listing.{hit_indexes};
 ghost use Rattle.impact_job.specs.Tables as tables;
 ghost use Rattle.impact_job.specs.Order.{Ascend};
 ghost use Rattle.snapshot.specs.Snapshots.{StandsFor, snapshot_upto};
-ghost use Rattle.snapshot.specs.Pages.{is_above, cut, page, page_seen};
-ghost use Rattle.snapshot.specs.Subjects.{is_package_hit, is_commit_hit, listed_for_commit};
+ghost use Rattle.snapshot.specs.Pages.{is_above, cut, page, found_seen, page_seen};
+ghost use Rattle.snapshot.specs.Subjects.{is_package_hit, is_commit_hit};
 
-use crate::commits::{first_commit_hits, repo_index_of};
+use crate::commits::{first_commit_hits, most_of, repo_index_of};
 use crate::packages::{as_text, first_package_hits, from_index, renewed_index};
-use crate::page::Page;
+use crate::page::{Found, Page, shared};
 use crate::ranges::{read_version, renewed_ranges};
 use id_index::IdIndex;
 use impact_job::{Tables, split_at_id};
@@ -36,7 +37,7 @@ pub struct Snapshot {
     pub(crate) tables: Arc<Tables>,
     // The advisories of each package, by their indexes in the tables.
     pub(crate) packages: PackageIndex,
-    // The advisories with GIT ranges on each repository, by their indexes in the tables.
+    // The sets of the GIT ranges on each repository, and the indexes of their advisories in the tables.
     pub(crate) repos: RepoIndex,
     // The compiled forms of each advisory's ranges.
     pub(crate) ranges: Vec<Arc<List<CompiledRange>>>,
@@ -58,7 +59,7 @@ impl Snapshot {
         Ok(Snapshot {
             tables: Arc::new(alloc, tables)?,
             packages: PackageIndex::build(alloc, &[])?,
-            repos: RepoIndex::build(alloc, &[])?,
+            repos: RepoIndex::build(alloc, &[], &[])?,
             ranges: Vec::new(alloc),
             ids: IdIndex::build(alloc, &[])?,
         })
@@ -87,23 +88,23 @@ impl Snapshot {
 
     /// A page of hits: the first `size` of those whose ids are above `after`, or of all, ascending by id,
     /// and whether there are more. For a package it reads each advisory that is listed under it, with an id
-    /// above `after`, once at most, and for a commit each with a GIT range on a repository that has it; it
+    /// above `after`, once at most, and for a commit each that affects it, whatever its packages; it
     /// reads none behind the first hit that the page doesn't have. It takes no step through a graph. Only
     /// memory can fail.
-    pub fn answer<L: Ledger>(
-        &self,
+    pub fn look<'a, L: Ledger>(
+        &'a self,
         alloc: Global,
         subject: &Subject,
         after: Option<&Id>,
         size: u32,
         steps: &mut Steps<L>,
-    ) -> Result<Page, Memory>
-        ensures page { (p : List Past) → StandsFor self.now p → IfOk result (λ found. page_seen found ≡ page p subject.now (option_map (λ id. id.now) after.entry) size) }
+    ) -> Result<Found<'a>, Memory>
+        ensures page { (p : List Past) → StandsFor self.now p → IfOk result (λ found. found_seen found ≡ page p subject.now (option_map (λ id. id.now) after.entry) size) }
         ensures records { (p : List Past) → StandsFor self.now p → steps.new.record_count ≤ steps.old.record_count + length (records p) }
         ensures listed { (p : List Past) (asked : Key) (version : Option (List ℕ)) → StandsFor self.now p → subject.now ≡ Subject.Package asked version
             → steps.new.record_count ≤ steps.old.record_count + length (listed (records p) asked) }
         ensures of_commit { (p : List Past) (commit : List ℕ) (asked : Option Key) → StandsFor self.now p → subject.now ≡ commit_subject commit asked
-            → steps.new.record_count ≤ steps.old.record_count + length (listed_for_commit p commit) }
+            → steps.new.record_count ≤ steps.old.record_count + length (hit_indexes p commit) }
         ensures graph { steps.new.graph ≡ steps.old.graph }
     {
         match subject {
@@ -117,17 +118,38 @@ impl Snapshot {
         }
     }
 
-    // The same for a package, in this version where there is one.
-    fn by_package<L: Ledger>(
+    /// The same page, which outlives the snapshot: it shares each of its hits. Only memory can fail.
+    pub fn answer<L: Ledger>(
         &self,
+        alloc: Global,
+        subject: &Subject,
+        after: Option<&Id>,
+        size: u32,
+        steps: &mut Steps<L>,
+    ) -> Result<Page, Memory>
+        ensures page { (p : List Past) → StandsFor self.now p → IfOk result (λ found. page_seen found ≡ page p subject.now (option_map (λ id. id.now) after.entry) size) }
+        ensures records { (p : List Past) → StandsFor self.now p → steps.new.record_count ≤ steps.old.record_count + length (records p) }
+        ensures listed { (p : List Past) (asked : Key) (version : Option (List ℕ)) → StandsFor self.now p → subject.now ≡ Subject.Package asked version
+            → steps.new.record_count ≤ steps.old.record_count + length (listed (records p) asked) }
+        ensures of_commit { (p : List Past) (commit : List ℕ) (asked : Option Key) → StandsFor self.now p → subject.now ≡ commit_subject commit asked
+            → steps.new.record_count ≤ steps.old.record_count + length (hit_indexes p commit) }
+        ensures graph { steps.new.graph ≡ steps.old.graph }
+    {
+        let found = self.look(alloc, subject, after, size, steps)?;
+        shared(alloc, &found)
+    }
+
+    // What `look` gives for a package, in this version where there is one.
+    fn by_package<'a, L: Ledger>(
+        &'a self,
         alloc: Global,
         asked: &PackageKey,
         version: Option<&str>,
         after: Option<&Id>,
         size: u32,
         steps: &mut Steps<L>,
-    ) -> Result<Page, Memory>
-        ensures page { (p : List Past) → StandsFor self.now p → IfOk result (λ found. page_seen found ≡ cut size (filter (is_above (option_map (λ id. id.now) after.entry)) (filter (is_package_hit asked.now (option_map (λ t. t.now) version.entry)) (records p)))) }
+    ) -> Result<Found<'a>, Memory>
+        ensures page { (p : List Past) → StandsFor self.now p → IfOk result (λ found. found_seen found ≡ cut size (filter (is_above (option_map (λ id. id.now) after.entry)) (filter (is_package_hit asked.now (option_map (λ t. t.now) version.entry)) (records p)))) }
         ensures listed { (p : List Past) → StandsFor self.now p → steps.new.record_count ≤ steps.old.record_count + length (listed (records p) asked.now) }
         ensures graph { steps.new.graph ≡ steps.old.graph }
     {
@@ -145,17 +167,17 @@ impl Snapshot {
     }
 
     // The same for a commit, in entries of a package where one is asked for.
-    fn by_commit<L: Ledger>(
-        &self,
+    fn by_commit<'a, L: Ledger>(
+        &'a self,
         alloc: Global,
         commit: &Oid,
         asked: Option<&PackageKey>,
         after: Option<&Id>,
         size: u32,
         steps: &mut Steps<L>,
-    ) -> Result<Page, Memory>
-        ensures page { (p : List Past) → StandsFor self.now p → IfOk result (λ found. page_seen found ≡ cut size (filter (is_above (option_map (λ id. id.now) after.entry)) (filter (is_commit_hit (graphs p) commit.now (option_map (λ k. k.now) asked.entry)) (records p)))) }
-        ensures listed { (p : List Past) → StandsFor self.now p → steps.new.record_count ≤ steps.old.record_count + length (listed_for_commit p commit.now) }
+    ) -> Result<Found<'a>, Memory>
+        ensures page { (p : List Past) → StandsFor self.now p → IfOk result (λ found. found_seen found ≡ cut size (filter (is_above (option_map (λ id. id.now) after.entry)) (filter (is_commit_hit (graphs p) commit.now (option_map (λ k. k.now) asked.entry)) (records p)))) }
+        ensures listed { (p : List Past) → StandsFor self.now p → steps.new.record_count ≤ steps.old.record_count + length (hit_indexes p commit.now) }
         ensures graph { steps.new.graph ≡ steps.old.graph }
     {
         let records = self.tables.records.as_slice();
@@ -163,14 +185,14 @@ impl Snapshot {
         let above = all_above(records, after);
         let start = records.len().saturating_sub(above.len());
         let places = places_of(alloc, self.tables.repos.as_slice(), commit)?;
-        let listed = self.repos.listed(alloc, places.as_slice())?;
-        let indexes = from_index(listed.as_slice(), start);
+        let most = most_of(asked, size, records.len());
+        let indexes = self.repos.hits(alloc, places.as_slice(), start, most)?;
         let sets = self.tables.sets.as_slice();
         first_commit_hits(
             alloc,
             records,
             sets,
-            indexes,
+            indexes.as_slice(),
             places.as_slice(),
             asked,
             size,
@@ -192,7 +214,7 @@ pub(crate) fn of_tables(
 {
     let records = kept.records.as_slice();
     let packages = renewed_index(alloc, records, &base.packages, moves)?;
-    let repos = repo_index_of(alloc, records)?;
+    let repos = repo_index_of(alloc, records, kept.sets.as_slice())?;
     let ranges = renewed_ranges(alloc, records, base.ranges.as_slice(), moves)?;
     let ids = base.ids.renew(alloc, records, moves)?;
     Ok(Snapshot {

@@ -31,17 +31,25 @@ pub fn values(text: &str) -> (&str, &str, &str) {
     (first, second, third)
 }
 
-fn answer_of(
+fn advisories_of(alloc: Global, texts: &str) -> Result<Vec<Arc<Record>>, Memory> {
+    let mut advisories = Vec::new(alloc);
+    for text in texts.split('|') {
+        if let Ok(advisory) = Record::read(alloc, text.as_bytes()) {
+            advisories.push(Arc::new(alloc, advisory)?)?;
+        }
+    }
+    Ok(advisories)
+}
+
+fn answer_of<'a>(
     alloc: Global,
     snapshot: &str,
     more: &str,
-    advisories: &str,
-) -> Result<Answer, Memory> {
-    let mut found = Vec::new(alloc);
-    for text in advisories.split('|') {
-        if let Ok(advisory) = Record::read(alloc, text.as_bytes()) {
-            found.push(Arc::new(alloc, advisory)?)?;
-        }
+    advisories: &'a [Arc<Record>],
+) -> Result<Answer<'a>, Memory> {
+    let mut found = Vec::with_capacity(alloc, advisories.len())?;
+    for advisory in advisories {
+        found.push(advisory)?;
     }
     Ok(Answer {
         snapshot: number(snapshot),
@@ -50,24 +58,35 @@ fn answer_of(
     })
 }
 
-fn batch_of(
+fn page_of(alloc: Global, snapshot: &str, more: &str, texts: &str) -> Result<Vec<u8>, Memory> {
+    let advisories = advisories_of(alloc, texts)?;
+    let answer = answer_of(alloc, snapshot, more, advisories.as_slice())?;
+    answer_body(alloc, &answer)
+}
+
+fn pages_of(
     alloc: Global,
     snapshot: &str,
     more: &str,
-    advisories: &str,
+    advisories: &[Arc<Record>],
 ) -> Result<Vec<u8>, Memory> {
     let mut answers = Vec::new(alloc);
     answers.push(answer_of(alloc, snapshot, more, advisories)?)?;
-    answers.push(answer_of(alloc, snapshot, more, "")?)?;
+    answers.push(answer_of(alloc, snapshot, more, &[])?)?;
     answers.push(answer_of(alloc, snapshot, more, advisories)?)?;
     batch_body(alloc, answers.as_slice())
+}
+
+fn batch_of(alloc: Global, snapshot: &str, more: &str, texts: &str) -> Result<Vec<u8>, Memory> {
+    let advisories = advisories_of(alloc, texts)?;
+    pages_of(alloc, snapshot, more, advisories.as_slice())
 }
 
 fn body_in(alloc: Global, line: &str) -> Result<Vec<u8>, Memory> {
     let (word, rest) = line.split_once('|').unwrap_or((line, ""));
     let (first, second, third) = values(rest);
     match word {
-        "page" => answer_body(alloc, &answer_of(alloc, first, second, third)?),
+        "page" => page_of(alloc, first, second, third),
         "batch" => batch_of(alloc, first, second, third),
         "no batch" => batch_body(alloc, &[]),
         "entry" => entry_body(alloc, number(first)),

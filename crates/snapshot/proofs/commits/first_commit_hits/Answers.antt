@@ -1,4 +1,4 @@
-use Rattle.std.proofs.Common.{◌≡◌, ℕ, ◌≤◌, List, [], ◌∷◌, ◌++◌, Bool, true, false, length, map, take, get_or, Some, lt-ltb, sym, ap, ◌∙◌, arith, length-append}
+use Rattle.std.proofs.Common.{◌≡◌, ℕ, ◌≤◌, List, [], ◌∷◌, ◌++◌, Bool, true, false, length, map, take, get_or, Some, None, lt-ltb, sym, ap, ◌∙◌, arith, length-append}
 use Rattle.std.proofs.lemmas.Bool.{le-ltb}
 use Rattle.std.proofs.lemmas.List.{length-map, map-append, take_all, get_or_default}
 use Rattle.std.proofs.lemmas.Option.{get_or_from_slice_get}
@@ -21,11 +21,12 @@ loop-index-preserved-then-not-is_commit_hit g c =
     let k = c.loop-index.index-index in
     let i = get_or indexes k 0 in
     record {
-      found = λ p commit none at sets within.
+      found = λ p commit none at sets within hits.
           let h = is_commit_hit (graphs p) commit (option_map (λ k. k.now) c.args.asked) in
           let own = c.sets_at-own.ensures p all c.deref.result.now sets (sym c.in-Some.ensures ∙ ap Some (sym c.deref.ensures)) in
-          let no = at-index h none all i _ c.deref.result.now _ c.in-Some.ensures c.deref.ensures (c.is_commit_hit.ensures.hit p commit at own) ∙ c.if-not-is_commit_hit.true in
-          c.loop-index.invariant.found p commit none at sets within
+          let known = ap (is_commit_hit (graphs p) commit None) (c.deref.ensures ∙ sym (get_or_from_slice_get all i _ none (sym c.in-Some.ensures))) ∙ hits k 0 c.loop-index-test.true in
+          let no = at-index h none all i _ c.deref.result.now _ c.in-Some.ensures c.deref.ensures (c.is_commit_hit.ensures.hit p commit at own known) ∙ c.if-not-is_commit_hit.true in
+          c.loop-index.invariant.found p commit none at sets within hits
           ∙ sym (no_hit h (λ i. get_or all i none) indexes k i c.loop-index-test.true (get_or_default indexes k 0 i c.loop-index-test.true) no);
       fits = c.loop-index.invariant.fits;
       graph = c.is_commit_hit.ensures.graph ∙ c.loop-index.invariant.graph;
@@ -39,46 +40,48 @@ loop-index-preserved g c =
     let k = c.loop-index.index-index in
     let i = get_or indexes k 0 in
     record {
-      found = λ p commit none at sets within.
+      found = λ p commit none at sets within hits.
           let h = is_commit_hit (graphs p) commit (option_map (λ k. k.now) c.args.asked) in
           let own = c.sets_at-own.ensures p all c.deref.result.now sets (sym c.in-Some.ensures ∙ ap Some (sym c.deref.ensures)) in
-          let yes = at-index h none all i _ c.deref.result.now _ c.in-Some.ensures c.deref.ensures (c.is_commit_hit.ensures.hit p commit at own) ∙ c.if-not-is_commit_hit.false in
+          let known = ap (is_commit_hit (graphs p) commit None) (c.deref.ensures ∙ sym (get_or_from_slice_get all i _ none (sym c.in-Some.ensures))) ∙ hits k 0 c.loop-index-test.true in
+          let yes = at-index h none all i _ c.deref.result.now _ c.in-Some.ensures c.deref.ensures (c.is_commit_hit.ensures.hit p commit at own known) ∙ c.if-not-is_commit_hit.false in
           let here = get_or_from_slice_get all i _ none (sym c.in-Some.ensures) in
-          ap (map (λ a. arc_value a)) c.in_ok-push.ensures.items ∙ map-append (λ a. arc_value a) c.loop-index.found.items (c.in_ok-try_clone.field-0 ∷ [])
-          ∙ ap (λ (ys : List Advisory). ys ++ arc_value c.in_ok-try_clone.field-0 ∷ []) (c.loop-index.invariant.found p commit none at sets within)
-          ∙ ap (λ (a : Advisory). filter h (map (λ i. get_or all i none) (take k indexes)) ++ a ∷ []) (c.in_ok-try_clone.ensures ∙ sym here)
+          ap (map (λ a. arc_value a.now)) c.in_ok-push.ensures.items ∙ map-append (λ a. arc_value a.now) c.loop-index.found.items (c.in-Some.advisory ∷ [])
+          ∙ ap (λ (ys : List Advisory). ys ++ arc_value c.in-Some.advisory.now ∷ []) (c.loop-index.invariant.found p commit none at sets within hits)
+          ∙ ap (λ (a : Advisory). filter h (map (λ i. get_or all i none) (take k indexes)) ++ a ∷ []) (sym here)
           ∙ sym (one_hit h (λ i. get_or all i none) indexes k i c.loop-index-test.true (get_or_default indexes k 0 i c.loop-index-test.true) yes);
-      fits = omega (arith, c.if-len-size.false, c.len.ensures, c.loop-index.found.ok.0, ap (λ (xs : List _). length xs) c.in_ok-push.ensures.items, length-append c.loop-index.found.items (c.in_ok-try_clone.field-0 ∷ []));
+      fits = omega (arith, c.if-len-size.false, c.len.ensures, c.loop-index.found.ok.0, ap (λ (xs : List _). length xs) c.in_ok-push.ensures.items, length-append c.loop-index.found.items (c.in-Some.advisory ∷ []));
       graph = c.is_commit_hit.ensures.graph ∙ c.loop-index.invariant.graph;
       records = omega (arith, c.is_commit_hit.ensures.records, c.loop-index.invariant.records);
     }
 
 pub returns-then-len-size-clause-page : goal.returns-then-len-size-clause-page
-returns-then-len-size-clause-page g c p commit none at sets within =
+returns-then-len-size-clause-page g c p commit none at sets within hits =
     let given : List Advisory = map (λ a. arc_value a) c.args.records.now in
     let h = is_commit_hit (graphs p) commit (option_map (λ k. k.now) c.args.asked) in
     let indexes = c.args.indexes.now in
     let k = c.loop-index.index-index in
     let i = get_or indexes k 0 in
     let items = c.loop-index.found.items in
-    let found : List Advisory = map (λ a. arc_value a) items in
+    let found : List Advisory = map (λ a. arc_value a.now) items in
     let all : List Advisory = filter h (map (λ i. get_or given i none) indexes) in
     let own = c.sets_at-own.ensures p given c.deref.result.now sets (sym c.in-Some.ensures ∙ ap Some (sym c.deref.ensures)) in
-    let yes = at-index h none given i _ c.deref.result.now _ c.in-Some.ensures c.deref.ensures (c.is_commit_hit.ensures.hit p commit at own) ∙ c.if-not-is_commit_hit.false in
-    let r = full h (λ i. get_or given i none) indexes k i found c.args.size c.loop-index-test.true (get_or_default indexes k 0 i c.loop-index-test.true) yes (c.loop-index.invariant.found p commit none at sets within)
-    (omega (arith, c.if-len-size.true, c.len.ensures, c.loop-index.found.ok.0, c.loop-index.invariant.fits, length-map items (λ a. arc_value a))) in
+    let known = ap (is_commit_hit (graphs p) commit None) (c.deref.ensures ∙ sym (get_or_from_slice_get given i _ none (sym c.in-Some.ensures))) ∙ hits k 0 c.loop-index-test.true in
+    let yes = at-index h none given i _ c.deref.result.now _ c.in-Some.ensures c.deref.ensures (c.is_commit_hit.ensures.hit p commit at own known) ∙ c.if-not-is_commit_hit.false in
+    let r = full h (λ i. get_or given i none) indexes k i found c.args.size c.loop-index-test.true (get_or_default indexes k 0 i c.loop-index-test.true) yes (c.loop-index.invariant.found p commit none at sets within hits)
+    (omega (arith, c.if-len-size.true, c.len.ensures, c.loop-index.found.ok.0, c.loop-index.invariant.fits, length-map items (λ a. arc_value a.now))) in
     same_page found (take c.args.size all) true (nat_lt c.args.size (length all)) r.0 (sym (lt-ltb _ _ r.1))
 
 pub returns-clause-page : goal.returns-clause-page
-returns-clause-page g c p commit none at sets within =
+returns-clause-page g c p commit none at sets within hits =
     let given : List Advisory = map (λ a. arc_value a) c.args.records.now in
     let h = is_commit_hit (graphs p) commit (option_map (λ k. k.now) c.args.asked) in
     let indexes = c.args.indexes.now in
     let items = c.loop-index.found.items in
-    let found : List Advisory = map (λ a. arc_value a) items in
+    let found : List Advisory = map (λ a. arc_value a.now) items in
     let all : List Advisory = filter h (map (λ i. get_or given i none) indexes) in
     let is : found ≡ all =
-    c.loop-index.invariant.found p commit none at sets within ∙ ap (λ (is : List ℕ). filter h (map (λ i. get_or given i none) is)) (take_all c.loop-index.index-index indexes (omega (arith, c.loop-index-test.false))) in
-    let fits : length found ≤ c.args.size = omega (arith, c.loop-index.invariant.fits, length-map items (λ a. arc_value a)) in
+    c.loop-index.invariant.found p commit none at sets within hits ∙ ap (λ (is : List ℕ). filter h (map (λ i. get_or given i none) is)) (take_all c.loop-index.index-index indexes (omega (arith, c.loop-index-test.false))) in
+    let fits : length found ≤ c.args.size = omega (arith, c.loop-index.invariant.fits, length-map items (λ a. arc_value a.now)) in
     let long = ap (λ (ys : List Advisory). length ys) is in
     same_page found (take c.args.size all) false (nat_lt c.args.size (length all)) (all_fit found c.args.size fits ∙ ap (take c.args.size) is) (sym (le-ltb _ _ (omega (arith, fits, long))))

@@ -9,7 +9,7 @@ use Rattle.snapshot.proofs.packages.first_package_hits.Given as goal
 abbrev pub invariant-loop-index : goal.invariant-loop-index
 invariant-loop-index g l =
     record {
-      found : (none : Advisory) → AreCompiled (map (λ a. arc_value a) l.records) l.ranges → IsKeysOf l.keys (option_map (λ t. t.now) l.version) → All (λ i. i < length l.records) l.indexes → map (λ a. arc_value a) l.found.items
+      found : (none : Advisory) → AreCompiled (map (λ a. arc_value a) l.records) l.ranges → IsKeysOf l.keys (option_map (λ t. t.now) l.version) → All (λ i. i < length l.records) l.indexes → map (λ a. arc_value a.now) l.found.items
           ≡ filter (is_package_hit l.asked (option_map (λ t. t.now) l.version)) (map (λ i. get_or (map (λ a. arc_value a) l.records) i none) (take l.index-index l.indexes));
       fits : length l.found.items ≤ l.size;
       graph : l.steps.graph ≡ l.fn.steps.graph;

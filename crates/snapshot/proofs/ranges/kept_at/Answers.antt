@@ -1,7 +1,7 @@
 use Rattle.std.proofs.Common.{◌≡◌, sym, ap, ◌∙◌, arith}
 use Rattle.std.specs.Prelude.{Some, slice_get}
 use Rattle.snapshot.specs.Ranges.{AreSharedOf}
-use Rattle.snapshot.proofs.Zipped.{some-both, within}
+use Rattle.repo_index.proofs.Zipped.{some-both, within}
 use Rattle.snapshot.proofs.ranges.kept_at.Goals as goal
 
 pub returns-in-Some : goal.returns-in-Some

@@ -2,7 +2,7 @@ use Rattle.std.proofs.Common.{List, sym, subst, ◌∙◌}
 use Rattle.range_hits.specs.Forms.{AreFormsOf}
 use Rattle.range_hits.specs.declared.form.CompiledRange.{CompiledRange}
 use Rattle.snapshot.specs.Ranges.{AreSharedOf}
-use Rattle.snapshot.proofs.Zipped.{at-both, none-at}
+use Rattle.repo_index.proofs.Zipped.{at-both, none-at}
 use Rattle.snapshot.proofs.ranges.ranges_at.Goals as goal
 
 pub returns-in-Some : goal.returns-in-Some

@@ -7,7 +7,7 @@ use Rattle.osv_record.specs.Advisories.{Advisory}
 use Rattle.record_moves.specs.Moved.{AreMoved}
 use Rattle.range_hits.proofs.Parting.{zip-both}
 use Rattle.snapshot.specs.Ranges.{AreCompiled, AreSharedOf}
-use Rattle.snapshot.proofs.Zipped.{there}
+use Rattle.repo_index.proofs.Zipped.{there}
 use Rattle.snapshot.proofs.ranges.renewed_ranges.Goals as goal
 
 pub loop-place-preserved : goal.loop-place-preserved

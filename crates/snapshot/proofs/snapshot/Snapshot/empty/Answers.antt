@@ -6,7 +6,6 @@ use Rattle.id_index.specs.Heads.{IsIndexOf}
 use Rattle.impact_job.specs.declared.tables.Tables.{Tables}
 use Rattle.impact_job.specs.Tables.{StandsFor, AreSetsOf, seen, repos_seen}
 use Rattle.package_index.specs.Listing.{listed}
-use Rattle.repo_index.specs.Index as of_repos
 use Rattle.snapshot.specs.Ranges.{AreCompiled}
 use Rattle.snapshot.proofs.snapshot.Snapshot.empty.Goals as goal
 
@@ -26,7 +25,7 @@ returns c =
                   sets = subst (λ (sets : List (List _)). AllZip (AreSetsOf []) [] sets) (sym c.new-5.ensures.items) tt;
                 });
             packages = λ asked. c.in_ok-build.ensures asked ∙ ap (λ (rs : List _). listed (seen rs) asked) (sym none);
-            repos = subst (λ (rs : List _). of_repos.IsIndexOf c.in_ok-build-2.field-0 (seen rs)) (sym none) c.in_ok-build-2.ensures;
+            repos = c.in_ok-build-2.ensures [] refl tt;
             ranges = subst (λ (rs : List _). AreCompiled (seen rs) c.new-7.result.items) (sym none) (subst (λ (vs : List _). AreCompiled [] vs) (sym c.new-7.ensures.items) tt);
             ids = subst (λ (rs : List _). IsIndexOf c.in_ok-build-3.field-0 (seen rs)) (sym none) c.in_ok-build-3.ensures;
           };

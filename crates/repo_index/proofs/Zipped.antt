@@ -1,5 +1,5 @@
 -- Members of two lists at one place.
-use Rattle.std.proofs.Common.{◌≡◌, ℕ, zero, suc, ◌<◌, length, get_or, arith, List, [], ◌∷◌, Option, Some, None, sym, ap, subst}
+use Rattle.std.proofs.Common.{◌≡◌, ℕ, zero, suc, ◌<◌, ◌≤◌, length, map, get_or, arith, List, [], ◌∷◌, Option, Some, None, sym, ap, subst}
 use Rattle.std.specs.Prelude.{IfSome, option_map, slice_get}
 use Rattle.std.specs.List.{AllZip}
 
@@ -34,3 +34,14 @@ pub within : {X : Type 0} (xs : List X) (i : ℕ) (x : X) → slice_get xs i ≡
 within [] i x at = absurd cc
 within (y ∷ xs) zero x at = omega arith
 within (y ∷ xs) (suc i) x at = omega (arith, within xs i x at)
+
+-- the same of what stands for it
+pub there-seen : {X Y : Type 0} (see : X → Y) (xs : List X) (i : ℕ) (x : X) → i < length xs → x ≡ get_or xs i x → slice_get (map see xs) i ≡ Some (see x)
+there-seen see [] i x lt is = absurd (omega (arith, lt))
+there-seen see (y ∷ xs) zero x lt is = ap Some (ap see (sym is))
+there-seen see (y ∷ xs) (suc i) x lt is = there-seen see xs i x (omega (arith, lt)) is
+
+pub one-item : {X : Type 0} (xs : List X) (x : X) → 1 ≤ length xs → length xs < 2 → x ≡ get_or xs 0 x → xs ≡ x ∷ []
+one-item [] x low high is = absurd (omega (arith, low))
+one-item (y ∷ []) x low high is = ap (λ (z : _). z ∷ []) (sym is)
+one-item (y ∷ z ∷ xs) x low high is = absurd (omega (arith, high))
