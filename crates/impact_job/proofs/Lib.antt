@@ -9,3 +9,5 @@ pub mod Listing
 pub mod Lookups
 pub mod Grouping
 pub mod Moving
+pub mod Counting
+pub mod Carrying

@@ -1,5 +1,5 @@
 -- Graphs that are looked up by the keys of repositories.
-use Rattle.std.proofs.Common.{◌≡◌, ℕ, Bool, true, false, ◌||◌, cond, List, [], ◌∷◌, ◌++◌, Option, Some, None, Bor, bytes_eq, refl, sym, ap, ◌∙◌}
+use Rattle.std.proofs.Common.{◌≡◌, ℕ, Bool, true, false, ◌||◌, cond, List, [], ◌∷◌, ◌++◌, Option, Some, None, Bor, length, bytes_eq, refl, sym, ap, ◌∙◌}
 use Rattle.std.specs.Prelude.{is_some, option_map}
 use Rattle.std.specs.Arc.{arc_value}
 use Rattle.std.specs.declared.sync.Arc.{Arc}
@@ -109,6 +109,16 @@ put_all key repos (g ∷ gs) =
 -- a map that some graphs were put into has the repositories of these
 pub put-has : (gs : List Repo) (key : List ℕ) → is_some (graph_of (with_graphs [] gs) key) ≡ has_repo gs key
 put-has gs key = put_all key [] gs
+
+-- where no repository is there no graph is
+pub none-there : (repos : List Repo) → ((key : List ℕ) → is_some (graph_of repos key) ≡ false) → length repos ≡ 0
+none-there [] h = refl
+none-there (repo ∷ repos) h =
+    let own : is_some (graph_of (repo ∷ repos) repo.0) ≡ true =
+    some_first (bytes_eq repo.0 repo.0) repo.1 (graph_of repos repo.0) ∙ ap (λ (t : Bool). t || is_some (graph_of repos repo.0)) ((bytes_eq-Decides repo.0 repo.0).1 refl)
+    in
+    let clash : true ≡ false = sym own ∙ h repo.0 in
+    absurd cc
 
 -- ---- one more Grow
 

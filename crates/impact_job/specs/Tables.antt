@@ -5,7 +5,7 @@ use Rattle.std.specs.Arc.{arc_value}
 use Rattle.std.specs.Str.{bytes_eq}
 use Rattle.std.specs.declared.sync.Arc.{Arc}
 use mathlib.Core.List.{IsPrefix}
-use Rattle.osv_record.specs.Advisories.{Advisory}
+use Rattle.osv_record.specs.Advisories.{Advisory, git_ranges}
 use Rattle.osv_prim.specs.declared.oid.CommitRow.{CommitRow}
 use Rattle.evaluate.specs.Hits.{Repo}
 use Rattle.history.specs.declared.past.Past.{Past}
@@ -46,6 +46,10 @@ with_graphs repos (g ∷ later) = with_graphs (with_graph repos g.0 g.1) later
 -- a repository is among these
 abbrev pub has_repo : List Repo → List ℕ → Bool
 has_repo repos key = list_any (λ repo. bytes_eq repo.0 key) repos
+
+-- how many GIT ranges each advisory has
+abbrev pub git_counts : List Advisory → List ℕ
+git_counts advisories = map (λ (r : Advisory). git_ranges r.affected) advisories
 
 -- the sets are those of an advisory's GIT ranges, by entry and range, on the graphs after these imports
 abbrev pub AreSetsOf : {Z : Type 0} → List Past → Advisory → List (Arc Known Z) → Type 0
@@ -95,6 +99,8 @@ pub record IsPlanOf (plan : Plan) (b p : List Past) : Type 0 where
   pub grown : repos_seen (arc_value plan.repos).items ≡ graphs p
   -- the advisories of the first imports are among them where it is said
   pub moved : IsMoved plan.moves (records b) (records p)
+  -- how many GIT ranges each advisory has
+  pub counts : plan.counts.items ≡ git_counts (records p)
   -- what is to be done for each GIT range, by advisory, entry and range
   pub todo : AllZip (IsTodoOf b p) (git_ranges_in p) plan.todo.items
 

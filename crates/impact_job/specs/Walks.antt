@@ -10,7 +10,8 @@ use Rattle.evaluate.specs.Hits.{Repo, graph_of}
 use Rattle.history.specs.declared.past.Past.{Past}
 use Rattle.history.specs.Prefixes.{graphs}
 use Rattle.history.specs.Lookups.{has_grow}
-use Rattle.history.specs.Pieces.{GitRange, git_ranges_in}
+use Rattle.history.specs.declared.piece_kind.PieceKind.TheVariants.{Carry}
+use Rattle.history.specs.Pieces.{GitRange, git_ranges_in, kind_of}
 use Rattle.impact_set.specs.Standing.{Known}
 use Rattle.piece_work.specs.Sets.{IsSetOf}
 use Rattle.piece_work.specs.Works.{IsReady}
@@ -45,6 +46,10 @@ AreOld false b xs sets = AllZip (IsSetOf b) xs sets
 abbrev pub IsOld : Bool → List Past → GitRange → Option Known → Type 0
 IsOld true b x set = set ≡ None
 IsOld false b x set = MatchOption set ⊥ (IsSetOf b x)
+
+-- neither the advisory of the range nor its repository came anew, and the set is that of the range
+abbrev pub Stays : List Past → List Past → GitRange → Known → Type 0
+Stays b p x set = (kind_of (drop (length b) p) x ≡ Carry) × IsSetOf p x set
 
 -- a piece that is to be done can be done
 abbrev pub CanBeDone : Todo → Type 0

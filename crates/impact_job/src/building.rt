@@ -1,19 +1,21 @@
-ghost use Rattle.std.specs.Prelude.{◌≡◌, List, map, take, drop, flat_map, IfOk};
+ghost use Rattle.std.specs.Prelude.{◌≡◌, List, map, flat_map, IfOk};
 ghost use Rattle.std.specs.Arc.{arc_value};
 ghost use Rattle.std.specs.List.{AllZip};
+ghost use Rattle.osv_record.specs.Advisories.{Advisory};
 ghost use Rattle.history.specs.declared.past.Past.{Past};
 ghost use Rattle.history.specs.Pieces.{GitRange, ranges_of};
 ghost use Rattle.piece_work.specs.Sets.{IsSetOf};
-ghost use Rattle.impact_job.specs.Tables.{IsFilledOf, IsSomeFilled, IsMadeFor, HasSet, IsTodoOf, AreSetsOf, StandsFor, filled_upto};
+ghost use Rattle.impact_job.specs.Tables.{IsFilledOf, IsSomeFilled, IsMadeFor, HasSet, IsTodoOf, AreSetsOf, StandsFor, git_counts, filled_upto};
 
+use crate::split::parted;
 use crate::tables::{Filled, Tables, Todo};
 use impact_set::ImpactSet;
 use osv_prim::{List, Memory};
-use osv_record::Record;
 use std::alloc::Global;
 use std::sync::Arc;
 
-/// The tables of a plan whose pieces are done. It takes one `Arc` more for each set. Only memory can fail.
+/// The tables of a plan whose pieces are done. It takes one `Arc` more for each set, and 24 bytes for each advisory, of
+/// which nothing is read. Only memory can fail.
 pub fn tables_of(alloc: Global, filled: &Filled) -> Result<Tables, Memory>
     requires { IsSomeFilled filled.now }
     ensures stands { (b p : List Past) → IsFilledOf filled.now b p → IfOk result (λ t. StandsFor t p) }
@@ -21,7 +23,7 @@ pub fn tables_of(alloc: Global, filled: &Filled) -> Result<Tables, Memory>
 {
     let plan = &filled.plan;
     let (todo, made) = (plan.todo.as_slice(), filled.made.as_slice());
-    let sets = by_advisory(alloc, plan.records.as_slice(), todo, made)?;
+    let sets = by_advisory(alloc, plan.counts.as_slice(), todo, made)?;
     Ok(Tables {
         upto: plan.upto,
         records: Arc::try_clone(&plan.records)?,
@@ -33,19 +35,18 @@ pub fn tables_of(alloc: Global, filled: &Filled) -> Result<Tables, Memory>
 // The sets by advisory, each with as many as it has GIT ranges.
 fn by_advisory(
     alloc: Global,
-    advisories: &[Arc<Record>],
+    counts: &[u32],
     todo: &[Todo],
     made: &[Option<Arc<ImpactSet>>],
 ) -> Result<Vec<List<Arc<ImpactSet>>>, Memory>
     requires { AllZip HasSet todo.now made.now }
-    ensures { (b p : List Past) → AllZip (IsTodoOf b p) (flat_map ranges_of (map (λ a. arc_value a) advisories.now)) todo.now
-        → AllZip (IsMadeFor p) (flat_map ranges_of (map (λ a. arc_value a) advisories.now)) made.now
-        → IfOk result (λ v. AllZip (AreSetsOf p) (map (λ a. arc_value a) advisories.now) v.items) }
+    ensures { (b p : List Past) (rs : List Advisory) → counts.now ≡ git_counts rs → AllZip (IsTodoOf b p) (flat_map ranges_of rs) todo.now → AllZip (IsMadeFor p) (flat_map ranges_of rs) made.now
+        → IfOk result (λ v. AllZip (AreSetsOf p) rs v.items) }
 {
-    let mut grouped = Vec::with_capacity(alloc, advisories.len())?;
+    let mut grouped = Vec::with_capacity(alloc, counts.len())?;
     let (mut rest, mut rest_made) = (todo, made);
-    for advisory in advisories {
-        let count = advisory.git_ranges() as usize;
+    for ranges in counts {
+        let count = *ranges as usize;
         let (own, later) = parted(rest, count);
         let (own_made, later_made) = parted(rest_made, count);
         grouped.push(sets_of(alloc, own, own_made)?)?;
@@ -53,18 +54,6 @@ fn by_advisory(
         rest_made = later_made;
     }
     Ok(grouped)
-}
-
-// The first so many, or all where they are fewer, and those behind them.
-fn parted<T>(items: &[T], count: usize) -> (&[T], &[T])
-    ensures first { result.0.now ≡ take count items.now }
-    ensures later { result.1.now ≡ drop count items.now }
-{
-    if count < items.len() {
-        items.split_at(count)
-    } else {
-        (items, &[])
-    }
 }
 
 // The set of each GIT range.

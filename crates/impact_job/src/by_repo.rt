@@ -1,4 +1,4 @@
-ghost use Rattle.std.specs.Prelude.{◌≡◌, List, length, drop, IfOk};
+ghost use Rattle.std.specs.Prelude.{◌≡◌, ◌↔◌, ℕ, List, false, length, drop, IfOk, IsTrue};
 ghost use Rattle.std.specs.Arc.{arc_value};
 ghost use Rattle.history.specs.declared.past.Past.{Past};
 ghost use Rattle.history.specs.Prefixes.{graph};
@@ -52,5 +52,12 @@ impl<'a> Graphs<'a> {
         ensures { (b p : List Past) → AreGraphsOf self.now b p → result ≡ has_grow (drop (length b) p) key.now }
     {
         self.grown.get(&key).is_some()
+    }
+
+    /// Whether no repository has a Grow since the snapshot before.
+    pub(crate) fn is_quiet(&self) -> bool
+        ensures { (b p : List Past) → AreGraphsOf self.now b p → (IsTrue result ↔ ((key : List ℕ) → has_grow (drop (length b) p) key ≡ false)) }
+    {
+        self.grown.is_empty()
     }
 }

@@ -11,6 +11,7 @@
 
 mod building;
 mod by_repo;
+mod counts;
 mod latest;
 mod merge;
 mod moves;

@@ -1,4 +1,4 @@
-ghost use Rattle.std.specs.Prelude.{◌≡◌, ◌≤◌, length, map, true, false, option_map};
+ghost use Rattle.std.specs.Prelude.{◌≡◌, ◌≤◌, length, map, take, drop, true, false, option_map};
 ghost use Rattle.std.specs.Arc.{arc_value};
 ghost use Rattle.std.specs.List.Sorted.{IsPartitionPoint};
 ghost use Rattle.impact_job.specs.Order.{Ascend, IsSplit, is_below, is_at, first_of, rest_of};
@@ -61,5 +61,17 @@ fn first_with_id<'a>(
     match records {
         [first, rest @ ..] if has_id(first, id) => (Some(first), rest),
         _ => (None, records),
+    }
+}
+
+/// The first so many, or all where they are fewer, and those behind them.
+pub(crate) fn parted<T>(items: &[T], count: usize) -> (&[T], &[T])
+    ensures first { result.0.now ≡ take count items.now }
+    ensures later { result.1.now ≡ drop count items.now }
+{
+    if count < items.len() {
+        items.split_at(count)
+    } else {
+        (items, &[])
     }
 }

@@ -1,4 +1,6 @@
-ghost use Rattle.std.specs.Prelude.{List, ◌∷◌};
+ghost use Rattle.std.specs.Prelude.{List, ◌∷◌, ◌++◌, option_map};
+ghost use Rattle.std.specs.Arc.{arc_value};
+ghost use Rattle.std.specs.Option.{option_to_list};
 ghost use Rattle.std.specs.List.{AllZip};
 ghost use Rattle.osv_record.specs.Advisories.{Advisory};
 ghost use Rattle.history.specs.declared.past.Past.{Past};
@@ -43,6 +45,8 @@ pub struct Plan {
     pub repos: Arc<Vec<(RepoKey, Arc<Graph>)>>,
     /// Where the advisories of the tables before are among these.
     pub moves: Moves,
+    /// How many GIT ranges each advisory has, and so how many sets.
+    pub counts: Vec<u32>,
     pub todo: Vec<Todo>,
 }
 
@@ -92,5 +96,18 @@ pub fn first_sets(sets: &[List<Arc<ImpactSet>>]) -> (&[Arc<ImpactSet>], &[List<A
     match sets.split_first() {
         None => (&[], sets),
         Some((own, later)) => (own.as_slice(), later),
+    }
+}
+
+/// The sets behind those of an advisory, where it is there.
+pub(crate) fn without<'s>(
+    sets: &'s [List<Arc<ImpactSet>>],
+    found: Option<&Arc<Record>>,
+) -> &'s [List<Arc<ImpactSet>>]
+    ensures { (b : List Past) (more : List Advisory) → AllZip (AreSetsOf b) (option_to_list (option_map (λ a. arc_value a.now) found.entry) ++ more) sets.now → AllZip (AreSetsOf b) more result.now }
+{
+    match found {
+        None => sets,
+        Some(_) => first_sets(sets).1,
     }
 }

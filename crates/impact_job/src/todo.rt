@@ -1,7 +1,6 @@
 ghost use Rattle.std.specs.Prelude.{◌≡◌, ◌≢◌, ◌∷◌, ◌++◌, ◌+◌, ℕ, List, [], Bool, false, true, Some, length, map, drop, flat_map, slice_get, option_map, MatchOption, IfOk, OnOk};
 ghost use Rattle.std.specs.Arc.{arc_value};
 ghost use Rattle.std.specs.List.{AllZip, AllByRecursion};
-ghost use Rattle.std.specs.Option.{option_to_list};
 ghost use Rattle.osv_record.specs.Advisories.{Advisory, Extent, Entry};
 ghost use Rattle.history.specs.declared.past.Past.{Past};
 ghost use Rattle.history.specs.Prefixes.{records, graph};
@@ -9,11 +8,12 @@ ghost use Rattle.history.specs.Lookups.{has_import};
 ghost use Rattle.history.specs.Pieces.{GitRange, repo_of, kind_of, ranges_from, ranges_of_entries, ranges_of, git_ranges_in};
 ghost use Rattle.piece_work.specs.Sets.{IsSetOf};
 ghost use Rattle.impact_job.specs.Tables.{StandsFor, IsTodoOf, AreSetsOf};
-ghost use Rattle.impact_job.specs.Walks.{AreGraphsOf, IsBegun, AreOld, IsOld};
+ghost use Rattle.impact_job.specs.Walks.{AreGraphsOf, IsBegun, AreOld, IsOld, Stays};
 
 use crate::by_repo::Graphs;
+use crate::counts::number_of;
 use crate::split::split_at_id;
-use crate::tables::{Tables, Todo, first_sets};
+use crate::tables::{Tables, Todo, first_sets, without};
 use commit_graph::Graph;
 use history::PieceKind;
 use impact_set::ImpactSet;
@@ -24,7 +24,8 @@ use std::alloc::Global;
 use std::sync::Arc;
 
 /// What is to be done for each GIT range of the advisories of a build, by advisory, entry and range: of the
-/// base and of those that changed since. Of an advisory of the base that has no sets nothing is read.
+/// base and of those that changed since. The entries of an advisory that did not change are read only where it has
+/// sets and some repository has grown.
 pub(crate) fn todo_of(
     alloc: Global,
     base: &Tables,
@@ -49,19 +50,6 @@ pub(crate) fn todo_of(
     Ok(todo)
 }
 
-// The sets behind those of an advisory, where it is there.
-fn without<'s>(
-    sets: &'s [List<Arc<ImpactSet>>],
-    found: Option<&Arc<Record>>,
-) -> &'s [List<Arc<ImpactSet>>]
-    ensures { (b : List Past) (more : List Advisory) → AllZip (AreSetsOf b) (option_to_list (option_map (λ a. arc_value a.now) found.entry) ++ more) sets.now → AllZip (AreSetsOf b) more result.now }
-{
-    match found {
-        None => sets,
-        Some(_) => first_sets(sets).1,
-    }
-}
-
 // What is to be done for advisories of the base that did not change, and the sets of later ones.
 fn keep_each<'s>(
     todo: &mut Vec<Todo>,
@@ -84,7 +72,7 @@ fn keep_each<'s>(
     Ok(own)
 }
 
-// One that has no set has no GIT range.
+// One that has no set has no GIT range, and where no repository has grown all sets stay.
 fn keep_one(
     todo: &mut Vec<Todo>,
     advisory: &Arc<Record>,
@@ -98,7 +86,21 @@ fn keep_one(
     if sets.is_empty() {
         return Ok(());
     }
+    if graphs.is_quiet() {
+        return carry_each(todo, sets);
+    }
     put_record(todo, advisory, sets, graphs)
+}
+
+// Sets that stay.
+fn carry_each(todo: &mut Vec<Todo>, sets: &[Arc<ImpactSet>]) -> Result<(), Memory>
+    ensures { (b p : List Past) (xs later : List GitRange) → IsBegun b p todo.old.items (xs ++ later) → AllZip (Stays b p) xs (map (λ a. arc_value a) sets.now)
+        → OnOk result (IsBegun b p todo.new.items later) }
+{
+    for set in sets {
+        todo.push(Todo::Carried(Arc::try_clone(set)?))?;
+    }
+    Ok(())
 }
 
 // What is to be done for the GIT ranges of an advisory, which have these sets where it did not come anew.
@@ -183,16 +185,6 @@ fn first_set<'s>(sets: &'s [Arc<ImpactSet>]) -> (Option<&'s Arc<ImpactSet>>, &'s
         None => (None, sets),
         Some((set, later)) => (Some(set), later),
     }
-}
-
-// No memory has more.
-fn number_of(count: usize) -> Result<u32, Memory>
-    ensures { IfOk result (λ n. n ≡ count) }
-{
-    if count > u32::MAX as usize {
-        return Err(Memory);
-    }
-    Ok(count as u32)
 }
 
 // No advisory has more.

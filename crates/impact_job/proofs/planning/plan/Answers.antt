@@ -3,13 +3,16 @@ use Rattle.std.specs.Arc.{arc_value}
 use Rattle.std.specs.declared.vec.Vec.{Vec}
 use Rattle.std.proofs.Math.Seq.{drop-append_seam}
 use Rattle.osv_record.specs.Advisories.{Advisory}
+use Rattle.osv_record.specs.Imports.{records_from}
 use Rattle.osv_record.specs.Imports as counting
 use Rattle.history.specs.declared.past.Past.{Past}
 use Rattle.history.specs.Prefixes.{records}
-use Rattle.impact_job.specs.Tables.{StandsFor, repos_seen}
+use Rattle.impact_job.specs.Order.{Ascend}
+use Rattle.impact_job.specs.Tables.{StandsFor, repos_seen, git_counts}
 use Rattle.impact_job.specs.declared.tables.Tables.{Tables}
 use Rattle.impact_job.proofs.Prefixes.{planned, merge-at, latest-at}
 use Rattle.impact_job.proofs.Moving.{moved-at, moved-planned}
+use Rattle.impact_job.proofs.Counting.{counts-planned}
 use Rattle.impact_job.proofs.planning.plan.Goals as goal
 
 pub returns-clause-plan : goal.returns-clause-plan
@@ -33,6 +36,10 @@ returns-clause-plan c = λ b p x.
       moved =
           moved-planned b x.came p (map (λ a. arc_value a) base) (map (λ a. arc_value a) c.args.prefix.now.added.items) (map (λ a. arc_value a.now) changed) c.in_ok-moves.moves x.whole x.base.kept x.added last
           (moved-at (λ a. arc_value a) (λ a. arc_value a.now) c.as_slice-4.result.now base c.as_slice-5.result.now changed c.in_ok-moves.moves again c.as_slice-5.ensures.value c.in_ok-moves.ensures);
+      counts =
+          counts-planned b x.came p (map (λ a. arc_value a) c.args.prefix.now.added.items) (map (λ a. arc_value a.now) changed) c.in_ok-counts.counts.items x.whole x.added last
+          (subst (λ ys. Ascend (map (λ a. arc_value a.now) ys) → c.in_ok-counts.counts.items ≡ git_counts (records_from (records b) (map (λ a. arc_value a.now) ys))) c.as_slice-7.ensures.value
+          (c.in_ok-counts.ensures b (subst (λ (t : Tables). StandsFor t b) (sym c.deref-6.ensures) x.base)));
       todo =
           c.in_ok-todo.ensures b p known (subst (λ (t : Tables). StandsFor t b) (sym c.deref-5.ensures) x.base)
           (ap (map (λ a. arc_value a.now)) c.as_slice-6.ensures.value ∙ last ∙ ap (λ (xs : List Advisory). counting.records xs) x.added ∙ ap (λ (q : List Past). records q) came);
