@@ -7,7 +7,7 @@ use Rattle.impact_job.specs.Tables.{seen}
 use Rattle.osv_prim.specs.declared.package.PackageKey.{PackageKey}
 use Rattle.id_index.specs.Heads.{IsIndexOf}
 use Rattle.repo_index.specs.Index as repo_index
-use Rattle.snapshot.specs.Ranges.{AreCompiled}
+use Rattle.form_index.specs.Index.{AreIndexed}
 use Rattle.package_index.specs.Index.{found}
 use Rattle.package_index.specs.Listing.{listed}
 use Rattle.snapshot.specs.declared.snapshot.Snapshot.{Snapshot}
@@ -21,5 +21,5 @@ pub record StandsFor (snapshot : Snapshot) (p : List Past) : Type 0 where
   pub tables : tables.StandsFor (arc_value snapshot.tables) p
   pub packages : (asked : PackageKey) → found snapshot.packages asked ≡ listed (seen (arc_value (arc_value snapshot.tables).records).items) asked
   pub repos : repo_index.IsIndexOf snapshot.repos p
-  pub ranges : AreCompiled (seen (arc_value (arc_value snapshot.tables).records).items) snapshot.ranges.items
+  pub ranges : AreIndexed (seen (arc_value (arc_value snapshot.tables).records).items) snapshot.ranges
   pub ids : IsIndexOf snapshot.ids (seen (arc_value (arc_value snapshot.tables).records).items)

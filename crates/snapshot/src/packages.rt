@@ -10,14 +10,15 @@ ghost use Rattle.package_index.specs.Listing.{listed};
 ghost use Rattle.record_moves.specs.Moved.{IsMoved};
 ghost use Rattle.evaluate.specs.Hits.{version_hit};
 ghost use Rattle.range_hits.specs.Forms.{AreFormsOf};
-ghost use Rattle.snapshot.specs.Ranges.{AreCompiled, IsKeysOf};
+ghost use Rattle.form_index.specs.Index.{AreIndexed};
+ghost use Rattle.snapshot.specs.Ranges.{IsKeysOf};
 ghost use Rattle.snapshot.specs.Pages.{cut, found_seen};
 ghost use Rattle.snapshot.specs.Subjects.{is_package_hit};
 
 use crate::page::Found;
-use crate::ranges::ranges_at;
 use evaluate::version_hit;
-use osv_prim::{Ledger, List, Memory, PackageKey, Steps, Text};
+use form_index::FormIndex;
+use osv_prim::{Ledger, Memory, PackageKey, Steps, Text};
 use osv_record::Record;
 use package_index::PackageIndex;
 use range_hits::{AskedVersion, CompiledRange};
@@ -74,7 +75,7 @@ pub(crate) fn as_text(version: &Option<Text>) -> Option<&str>
 pub(crate) fn first_package_hits<'a, L: Ledger>(
     alloc: Global,
     records: &'a [Arc<Record>],
-    ranges: &[Arc<List<CompiledRange>>],
+    ranges: &FormIndex,
     indexes: &[u32],
     asked: &PackageKey,
     version: Option<&str>,
@@ -82,7 +83,7 @@ pub(crate) fn first_package_hits<'a, L: Ledger>(
     size: u32,
     steps: &mut Steps<L>,
 ) -> Result<Found<'a>, Memory>
-    ensures page { (none : Advisory) → AreCompiled (map (λ a. arc_value a) records.now) ranges.now → IsKeysOf keys.now (option_map (λ t. t.now) version.entry) → All (λ i. i < length records.now) indexes.now → IfOk result (λ found. found_seen found ≡ cut size (filter (is_package_hit asked.now (option_map (λ t. t.now) version.entry)) (map (λ i. slice_index_or (map (λ a. arc_value a) records.now) i none) indexes.now))) }
+    ensures page { (none : Advisory) → AreIndexed (map (λ a. arc_value a) records.now) ranges.now → IsKeysOf keys.now (option_map (λ t. t.now) version.entry) → All (λ i. i < length records.now) indexes.now → IfOk result (λ found. found_seen found ≡ cut size (filter (is_package_hit asked.now (option_map (λ t. t.now) version.entry)) (map (λ i. slice_index_or (map (λ a. arc_value a) records.now) i none) indexes.now))) }
     ensures graph { steps.new.graph ≡ steps.old.graph }
     ensures records { steps.new.record_count ≤ steps.old.record_count + length indexes.now }
 {
@@ -91,7 +92,7 @@ pub(crate) fn first_package_hits<'a, L: Ledger>(
         let Some(advisory) = advisory_at(records, *index) else {
             continue;
         };
-        let forms = ranges_at(ranges, *index);
+        let forms = ranges.of(*index);
         if !is_package_hit(alloc, advisory, forms, asked, version, keys, steps)? {
             continue;
         }

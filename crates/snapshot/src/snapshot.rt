@@ -18,13 +18,13 @@ ghost use Rattle.snapshot.specs.Subjects.{is_package_hit, is_commit_hit};
 use crate::commits::{first_commit_hits, most_of, repo_index_of};
 use crate::packages::{as_text, first_package_hits, from_index, renewed_index};
 use crate::page::{Found, Page, shared};
-use crate::ranges::{read_version, renewed_ranges};
+use crate::ranges::read_version;
+use form_index::FormIndex;
 use id_index::IdIndex;
 use impact_job::{Tables, split_at_id};
-use osv_prim::{Id, Ledger, List, Memory, Oid, PackageKey, Steps, Subject};
+use osv_prim::{Id, Ledger, Memory, Oid, PackageKey, Steps, Subject};
 use osv_record::Record;
 use package_index::PackageIndex;
-use range_hits::CompiledRange;
 use record_moves::Moves;
 use repo_index::RepoIndex;
 use set_hits::places_of;
@@ -39,8 +39,8 @@ pub struct Snapshot {
     pub(crate) packages: PackageIndex,
     // The sets of the GIT ranges on each repository, and the indexes of their advisories in the tables.
     pub(crate) repos: RepoIndex,
-    // The compiled forms of each advisory's ranges.
-    pub(crate) ranges: Vec<Arc<List<CompiledRange>>>,
+    // The compiled forms of each advisory's ranges, by its index in the tables.
+    pub(crate) ranges: FormIndex,
     // The advisory of each id, by its place in the tables.
     pub(crate) ids: IdIndex,
 }
@@ -60,7 +60,7 @@ impl Snapshot {
             tables: Arc::new(alloc, tables)?,
             packages: PackageIndex::build(alloc, &[])?,
             repos: RepoIndex::build(alloc, &[], &[])?,
-            ranges: Vec::new(alloc),
+            ranges: FormIndex::build(alloc, &[])?,
             ids: IdIndex::build(alloc, &[])?,
         })
     }
@@ -159,10 +159,17 @@ impl Snapshot {
             .len()
             .saturating_sub(all_above(records, after).len());
         let indexes = from_index(self.packages.listed(asked), start);
-        let ranges = self.ranges.as_slice();
         let keys = read_version(alloc, version)?;
         first_package_hits(
-            alloc, records, ranges, indexes, asked, version, &keys, size, steps,
+            alloc,
+            records,
+            &self.ranges,
+            indexes,
+            asked,
+            version,
+            &keys,
+            size,
+            steps,
         )
     }
 
@@ -215,7 +222,7 @@ pub(crate) fn of_tables(
     let records = kept.records.as_slice();
     let packages = renewed_index(alloc, records, &base.packages, moves)?;
     let repos = repo_index_of(alloc, records, kept.sets.as_slice())?;
-    let ranges = renewed_ranges(alloc, records, base.ranges.as_slice(), moves)?;
+    let ranges = base.ranges.renew(alloc, records, moves)?;
     let ids = base.ids.renew(alloc, records, moves)?;
     Ok(Snapshot {
         tables: kept,

@@ -22,7 +22,7 @@ loop-index-preserved-then-not-branch g c =
     let i = get_or indexes k 0 in
     record {
       found = λ none compiled keys within.
-          let no = at-index h none all i _ c.deref.result.now _ c.in-Some.ensures c.deref.ensures (c.in_ok-is_package_hit.ensures.hit (c.ranges_at-forms.ensures all c.deref.result.now compiled (sym c.in-Some.ensures ∙ ap Some (sym c.deref.ensures))) keys) ∙ c.if-not-branch.true in
+          let no = at-index h none all i _ c.deref.result.now _ c.in-Some.ensures c.deref.ensures (c.in_ok-is_package_hit.ensures.hit (c.of-forms.ensures.forms all c.deref.result.now compiled (sym c.in-Some.ensures ∙ ap Some (sym c.deref.ensures))) keys) ∙ c.if-not-branch.true in
           c.loop-index.invariant.found none compiled keys within
           ∙ sym (no_hit h (λ i. get_or all i none) indexes k i c.loop-index-test.true (get_or_default indexes k 0 i c.loop-index-test.true) no);
       fits = c.loop-index.invariant.fits;
@@ -39,7 +39,7 @@ loop-index-preserved g c =
     let i = get_or indexes k 0 in
     record {
       found = λ none compiled keys within.
-          let yes = at-index h none all i _ c.deref.result.now _ c.in-Some.ensures c.deref.ensures (c.in_ok-is_package_hit.ensures.hit (c.ranges_at-forms.ensures all c.deref.result.now compiled (sym c.in-Some.ensures ∙ ap Some (sym c.deref.ensures))) keys) ∙ c.if-not-branch.false in
+          let yes = at-index h none all i _ c.deref.result.now _ c.in-Some.ensures c.deref.ensures (c.in_ok-is_package_hit.ensures.hit (c.of-forms.ensures.forms all c.deref.result.now compiled (sym c.in-Some.ensures ∙ ap Some (sym c.deref.ensures))) keys) ∙ c.if-not-branch.false in
           let here = get_or_from_slice_get all i _ none (sym c.in-Some.ensures) in
           ap (map (λ a. arc_value a.now)) c.in_ok-push.ensures.items ∙ map-append (λ a. arc_value a.now) c.loop-index.found.items (c.in-Some.advisory ∷ [])
           ∙ ap (λ (ys : List Advisory). ys ++ arc_value c.in-Some.advisory.now ∷ []) (c.loop-index.invariant.found none compiled keys within)
@@ -60,7 +60,7 @@ returns-then-len-size-clause-page g c none compiled keys within =
     let items = c.loop-index.found.items in
     let found : List Advisory = map (λ a. arc_value a.now) items in
     let all : List Advisory = filter h (map (λ i. get_or given i none) indexes) in
-    let yes = at-index h none given i _ c.deref.result.now _ c.in-Some.ensures c.deref.ensures (c.in_ok-is_package_hit.ensures.hit (c.ranges_at-forms.ensures given c.deref.result.now compiled (sym c.in-Some.ensures ∙ ap Some (sym c.deref.ensures))) keys) ∙ c.if-not-branch.false in
+    let yes = at-index h none given i _ c.deref.result.now _ c.in-Some.ensures c.deref.ensures (c.in_ok-is_package_hit.ensures.hit (c.of-forms.ensures.forms given c.deref.result.now compiled (sym c.in-Some.ensures ∙ ap Some (sym c.deref.ensures))) keys) ∙ c.if-not-branch.false in
     let r = full h (λ i. get_or given i none) indexes k i found c.args.size c.loop-index-test.true (get_or_default indexes k 0 i c.loop-index-test.true) yes (c.loop-index.invariant.found none compiled keys within)
     (omega (arith, c.if-len-size.true, c.len.ensures, c.loop-index.found.ok.0, c.loop-index.invariant.fits, length-map items (λ a. arc_value a.now))) in
     same_page found (take c.args.size all) true (nat_lt c.args.size (length all)) r.0 (sym (lt-ltb _ _ r.1))

@@ -14,7 +14,7 @@ use Rattle.impact_job.proofs.Prefixes.{kept-ascend}
 use Rattle.package_index.specs.Listing.{listed}
 use Rattle.package_index.proofs.Rising.{listed-rising}
 use Rattle.snapshot.specs.Pages.{is_above, cut}
-use Rattle.snapshot.specs.Ranges.{AreCompiled}
+use Rattle.form_index.specs.Index.{AreIndexed}
 use Rattle.snapshot.specs.Subjects.{is_package_hit}
 use Rattle.snapshot.proofs.Listed.{listed-end, nothing}
 use Rattle.snapshot.proofs.snapshot.Snapshot.by_package.Goals as goal
@@ -40,8 +40,7 @@ returns-clause-page g c = λ p s.
     let part = listed-end asked version nothing front above all whole c.from_index-indexes.result.now indexes in
     let within = subst (λ (n : ℕ). All (λ i. i < n) c.from_index-indexes.result.now) (length-map c.as_slice-records.result.now (λ a. arc_value a)) part.0 in
     let compiled =
-    subst (λ (vs : List _). AreCompiled all vs) (sym c.as_slice-ranges.ensures.value)
-    (subst (λ (rs : List _). AreCompiled (map (λ a. arc_value a) rs) c.args.self.now.ranges.items) (sym (c.as_slice-records.ensures.value ∙ ap (λ (v : Vec _ _). v.items) (c.deref-2.ensures ∙ ap (λ (t : Tables). arc_value t.records) c.deref.ensures))) s.ranges)
+    subst (λ (rs : List _). AreIndexed (map (λ a. arc_value a) rs) c.args.self.now.ranges) (sym (c.as_slice-records.ensures.value ∙ ap (λ (v : Vec _ _). v.items) (c.deref-2.ensures ∙ ap (λ (t : Tables). arc_value t.records) c.deref.ensures))) s.ranges
     in
     let hits : filter (is_package_hit asked version) (map (λ i. get_or all i nothing) c.from_index-indexes.result.now) ≡ filter (is_above after) (filter (is_package_hit asked version) (records p)) =
     part.1 ∙ c.all_above.ensures.hits up (is_package_hit asked version) ∙ ap (λ (ys : List Advisory). filter (is_above after) (filter (is_package_hit asked version) ys)) kept in

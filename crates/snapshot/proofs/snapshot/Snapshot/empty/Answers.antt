@@ -6,7 +6,7 @@ use Rattle.id_index.specs.Heads.{IsIndexOf}
 use Rattle.impact_job.specs.declared.tables.Tables.{Tables}
 use Rattle.impact_job.specs.Tables.{StandsFor, AreSetsOf, seen, repos_seen}
 use Rattle.package_index.specs.Listing.{listed}
-use Rattle.snapshot.specs.Ranges.{AreCompiled}
+use Rattle.form_index.specs.Index.{AreIndexed}
 use Rattle.snapshot.proofs.snapshot.Snapshot.empty.Goals as goal
 
 pub returns : goal.returns
@@ -26,7 +26,7 @@ returns c =
                 });
             packages = λ asked. c.in_ok-build.ensures asked ∙ ap (λ (rs : List _). listed (seen rs) asked) (sym none);
             repos = c.in_ok-build-2.ensures [] refl tt;
-            ranges = subst (λ (rs : List _). AreCompiled (seen rs) c.new-7.result.items) (sym none) (subst (λ (vs : List _). AreCompiled [] vs) (sym c.new-7.ensures.items) tt);
-            ids = subst (λ (rs : List _). IsIndexOf c.in_ok-build-3.field-0 (seen rs)) (sym none) c.in_ok-build-3.ensures;
+            ranges = subst (λ (rs : List _). AreIndexed (seen rs) c.in_ok-build-3.field-0) (sym none) c.in_ok-build-3.ensures;
+            ids = subst (λ (rs : List _). IsIndexOf c.in_ok-build-4.field-0 (seen rs)) (sym none) c.in_ok-build-4.ensures;
           };
     }
