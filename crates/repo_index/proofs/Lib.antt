@@ -1,5 +1,6 @@
 pub mod Added
 pub mod AllHits
+pub mod Keeping
 pub mod Listing
 pub mod Noting
 pub mod Picked

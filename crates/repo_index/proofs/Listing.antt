@@ -1,15 +1,16 @@
 -- The indexes of the advisories that pass a test.
-use Rattle.std.proofs.Common.{◌≡◌, ℕ, suc, ◌+◌, ◌<◌, Bool, true, false, cond, ◌&&◌, ◌||◌, eqb, List, [], ◌∷◌, ◌++◌, length, map, take, get_or, Less, refl, sym, ap, ◌∙◌, arith}
-use Rattle.std.specs.Prelude.{filter}
+use Rattle.std.proofs.Common.{◌≡◌, ℕ, suc, ◌+◌, ◌<◌, Bool, true, false, cond, ◌&&◌, ◌||◌, eqb, List, [], ◌∷◌, ◌++◌, length, take, Some, Less, refl, sym, ap, ◌∙◌, arith}
+use Rattle.std.specs.Prelude.{filter, slice_get}
 use Rattle.std.specs.List.{list_any}
 use Rattle.std.specs.List.Sorted.{IsStrictlySortedBy}
 use Rattle.std.specs.Ordering.{nat_cmp}
 use Rattle.std.proofs.lemmas.Bool.{eqb-true}
-use Rattle.std.proofs.lemmas.List.{map-append, take_more, length-map, length-take}
+use Rattle.std.proofs.lemmas.List.{length-take}
 use Rattle.std.proofs.lemmas.List.Folds.{list_any-append}
 use Rattle.osv_record.specs.Advisories.{Advisory}
 use Rattle.package_index.proofs.Rising.{has, less, AllAbove}
 use Rattle.repo_index.specs.Listing.{passes_from, indexes_from}
+use Rattle.repo_index.proofs.Zipped.{take-next, within}
 
 -- ---- the indexes ascend
 
@@ -63,14 +64,10 @@ module _ (test : Advisory → Bool) where
       ∙ or_parts (test q && eqb n i) (passes_from test (n + 1) rs i) (test r && eqb (n + suc (length rs)) i)
 
   -- an advisory more
-  pub passes-more : {X : Type 0} (advisory_of : X → Advisory) (records : List X) (k : ℕ) (item : X) → k < length records → item ≡ get_or records k item → (i : ℕ)
-      → passes_from test 0 (map advisory_of (take (k + 1) records)) i ≡ (passes_from test 0 (map advisory_of (take k records)) i || (test (advisory_of item) && eqb k i))
-  passes-more {X} advisory_of records k item lt is i =
-      let first = map advisory_of (take k records) in
-      let long : 0 + length first ≡ k = omega (arith, length-map (take k records) advisory_of, length-take k records) in
-      ap (λ (rs : List Advisory). passes_from test 0 rs i)
-      (ap (map advisory_of) (take_more records k item lt) ∙ map-append advisory_of (take k records) (get_or records k item ∷ []) ∙ ap (λ (x : X). first ++ advisory_of x ∷ []) (sym is))
-      ∙ passes-push 0 first (advisory_of item) i ∙ ap (λ (n : ℕ). passes_from test 0 first i || (test (advisory_of item) && eqb n i)) long
+  pub passes-more : (rs : List Advisory) (k : ℕ) (r : Advisory) → slice_get rs k ≡ Some r → (i : ℕ) → passes_from test 0 (take (k + 1) rs) i ≡ (passes_from test 0 (take k rs) i || (test r && eqb k i))
+  passes-more rs k r at i =
+      let long : 0 + length (take k rs) ≡ k = omega (arith, length-take k rs, within rs k r at) in
+      ap (λ (xs : List Advisory). passes_from test 0 xs i) (take-next rs k r at) ∙ passes-push 0 (take k rs) r i ∙ ap (λ (n : ℕ). passes_from test 0 (take k rs) i || (test r && eqb n i)) long
 
 -- ---- some that ascend
 

@@ -3,7 +3,7 @@ use Rattle.std.proofs.Common.{◌≡◌, ℕ, ◌+◌, ◌<◌, ◌≤◌, inl, 
 use Rattle.std.specs.List.{list_any}
 use Rattle.std.specs.List.Sorted.{IsStrictlySortedBy}
 use Rattle.std.specs.Ordering.{nat_cmp}
-use Rattle.std.proofs.lemmas.Bool.{and_parts, cases_eq, eqb-true, ne_eqb, eq-eqb, or_cases, false≢true, true≢false, le-leb, leb-true, lt-leb}
+use Rattle.std.proofs.lemmas.Bool.{and_parts, cases_eq, eqb-true, ne_eqb, eq-eqb, or_cases, false≢true, le-leb, leb-true}
 use Rattle.package_index.proofs.Rising.{has, less, AllAbove}
 use Rattle.set_hits.specs.Places as places
 use Rattle.repo_index.specs.Index.{Kept, has_at, picked, AscendFrom}

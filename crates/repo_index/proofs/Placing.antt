@@ -17,7 +17,7 @@ use Rattle.history.specs.Prefixes.{keys, graph, graphs}
 use Rattle.history.proofs.Prefixes.{Apart, keys-apart}
 use Rattle.set_hits.specs.Places.{Place, with_place, places_of}
 use Rattle.set_hits.proofs.Hitting.{has_number}
-use Rattle.repo_index.specs.Listing.{is_on, range_hits_on, entry_hits_on, hits_on, is_git_hit}
+use Rattle.repo_index.specs.Listing.{range_hits_on, entry_hits_on, hits_on, is_git_hit}
 
 -- ---- one of some
 

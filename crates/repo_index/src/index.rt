@@ -4,40 +4,52 @@ ghost use Rattle.std.specs.List.{AllZip};
 ghost use Rattle.history.specs.declared.past.Past.{Past};
 ghost use Rattle.history.specs.Prefixes.{records, graphs};
 ghost use Rattle.impact_job.specs.Tables.{AreSetsOf};
-ghost use Rattle.repo_index.specs.Index.{IsIndexOf};
+ghost use Rattle.record_moves.specs.Moved.{IsMoved};
+ghost use Rattle.repo_index.specs.Index.{IsIndexOf, found, kept_seen};
 ghost use Rattle.repo_index.specs.Listing.{hit_indexes};
+ghost use Rattle.repo_index.specs.Numbers.{AreNumbersOf};
 ghost use Rattle.set_hits.specs.Places.{places_of};
 
-use crate::adding::{add_record, sets_at};
+use crate::keys::Keys;
+use crate::noted::noted_of;
+use crate::numbering::numbers_of_all;
 use crate::picking::picked;
 use impact_set::ImpactSet;
 use multimap::Multimap;
 use osv_prim::{List, Memory, RepoKey};
 use osv_record::Record;
 use package_index::sort_distinct;
+use record_moves::Moves;
 use std::alloc::Global;
 use std::marker::Model;
 use std::sync::Arc;
 
+// With more keys of its own than this an index is built anew, so that the next ones share all.
+const MOST_LATER: usize = 1_024;
+
 /// The sets of the GIT ranges on each repository, each with its advisory's index in the list that the index
-/// was built of. Those of withdrawn advisories, which never hit, are left out.
+/// was built of. Those of withdrawn advisories, which never hit, are left out. Each repository's key is kept
+/// once, and stands elsewhere by its number.
 #[derive(Drop)]
 pub struct RepoIndex {
-    noted: Multimap<RepoKey, (u32, Arc<ImpactSet>)>,
+    keys: Keys,
+    // Of each advisory the numbers of its GIT ranges' repositories, and none where it is withdrawn.
+    own: Vec<List<u32>>,
+    noted: Multimap<u32, (u32, Arc<ImpactSet>)>,
 }
 
 impl Model for RepoIndex {
-    ghost use Rattle.std.specs.Prelude.{List};
-    ghost use Rattle.repo_index.specs.Index.{Noted, all_seen};
+    ghost use Rattle.repo_index.specs.Index.{Index, all_seen};
 
-    ghost Value = { List Noted };
+    ghost Value = { Index };
 
-    ghost view = { λ i. all_seen i.noted };
+    ghost view = { λ i. record { keys = i.keys; own = i.own.items; entries = all_seen i.noted } };
 }
 
 impl RepoIndex {
-    /// The index of advisories, and of the sets of the GIT ranges of each, by entry and range. It takes
-    /// O(n log n) comparisons of keys, and then for each GIT range 40 bytes and a copy of its key.
+    /// The index of advisories, and of the sets of the GIT ranges of each, by entry and range. It takes a
+    /// look-up of a key for each GIT range, O(n log n) comparisons of numbers, and then for each GIT range 16
+    /// bytes and 8 more, for each advisory 24, and each key once.
     pub fn build(
         alloc: Global,
         advisories: &[Arc<Record>],
@@ -46,14 +58,39 @@ impl RepoIndex {
         requires { length advisories.now < 2 ^ 32 }
         ensures { (p : List Past) → map (λ a. arc_value a) advisories.now ≡ records p → AllZip (AreSetsOf p) (records p) sets.now → IfOk result (λ index. IsIndexOf index p) }
     {
-        let mut noted = Vec::new(alloc);
-        for (index, advisory) in advisories.iter().enumerate() {
-            let own = sets_at(sets, index as u32);
-            add_record(alloc, &mut noted, advisory, own, index as u32)?;
+        let mut keys = Keys::new(alloc)?;
+        let own = numbers_of_all(alloc, &mut keys, advisories, sets, &[], &[])?;
+        of_numbers(alloc, keys, own, sets)
+    }
+
+    /// The index of a later list of advisories, from this one of an earlier list and where the advisories of
+    /// that are in it. It goes once over both lists, and reads the advisories that were added alone; where
+    /// half of all were, or where many keys came since indexes share them, it is built anew.
+    pub fn renew(
+        &self,
+        alloc: Global,
+        advisories: &[Arc<Record>],
+        moves: &Moves,
+        sets: &[List<Arc<ImpactSet>>],
+    ) -> Result<RepoIndex, Memory>
+        requires { length advisories.now < 2 ^ 32 }
+        ensures { (b p : List Past) → IsIndexOf self.now b → IsMoved moves.now (records b) (records p) → map (λ a. arc_value a) advisories.now ≡ records p → AllZip (AreSetsOf p) (records p) sets.now → IfOk result (λ index. IsIndexOf index p) }
+    {
+        let is_much = moves.added.len() > advisories.len() / 2;
+        if is_much || self.keys.later() > MOST_LATER {
+            return RepoIndex::build(alloc, advisories, sets);
         }
-        Ok(RepoIndex {
-            noted: Multimap::build(alloc, noted)?,
-        })
+        let mut keys = self.keys.another(alloc)?;
+        let moved = moves.moved.as_slice();
+        let own = numbers_of_all(
+            alloc,
+            &mut keys,
+            advisories,
+            sets,
+            self.own.as_slice(),
+            moved,
+        )?;
+        of_numbers(alloc, keys, own, sets)
     }
 
     /// The indexes from `start` on of the advisories that affect a commit, whatever the packages of their
@@ -71,11 +108,11 @@ impl RepoIndex {
             → IfOk result (λ v. v.items ≡ take most (filter (λ i. nat_le start i) (hit_indexes p commit))) }
     {
         if let [place] = places {
-            return picked(alloc, self.noted.get(place.0), place.1, start, most);
+            return picked(alloc, self.under(place.0), place.1, start, most);
         }
         let mut indexes = Vec::new(alloc);
         for place in places {
-            let kept = self.noted.get(place.0);
+            let kept = self.under(place.0);
             let own = picked(alloc, kept, place.1, start, kept.len())?;
             indexes.extend_from_slice(own.as_slice())?;
         }
@@ -83,4 +120,32 @@ impl RepoIndex {
         indexes.truncate(most);
         Ok(indexes)
     }
+
+    // The sets under a key, by a look-up of it and O(log n) comparisons of numbers.
+    fn under(&self, key: &RepoKey) -> &[(u32, Arc<ImpactSet>)]
+        ensures { map kept_seen result.now ≡ found self.now key.now }
+    {
+        match self.keys.number(key) {
+            None => &[],
+            Some(number) => self.noted.get(&number),
+        }
+    }
+}
+
+// The index of the numbers of each advisory's repositories, and of its sets.
+fn of_numbers(
+    alloc: Global,
+    keys: Keys,
+    own: Vec<List<u32>>,
+    sets: &[List<Arc<ImpactSet>>],
+) -> Result<RepoIndex, Memory>
+    requires { length own.items < 2 ^ 32 }
+    ensures { (p : List Past) → AllZip (AreNumbersOf keys) (records p) own.items → AllZip (AreSetsOf p) (records p) sets.now → IfOk result (λ index. IsIndexOf index p) }
+{
+    let noted = noted_of(alloc, own.as_slice(), sets)?;
+    Ok(RepoIndex {
+        keys: keys.sealed(alloc)?,
+        own,
+        noted: Multimap::build(alloc, noted)?,
+    })
 }

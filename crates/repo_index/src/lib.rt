@@ -4,9 +4,12 @@
 //!     let indexes = index.hits(alloc, places, 0, most)?;
 #![tactic(auto)]
 
-mod adding;
 mod index;
+mod keys;
+mod lists;
+mod noted;
+mod numbering;
 mod picking;
 
-pub use adding::sets_at;
 pub use index::RepoIndex;
+pub use lists::sets_at;

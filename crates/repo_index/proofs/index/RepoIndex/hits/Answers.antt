@@ -1,5 +1,4 @@
-use Rattle.std.proofs.Common.{◌≡◌, ℕ, ◌+◌, Bool, true, false, ◌&&◌, ◌||◌, eqb, leb, List, [], ◌∷◌, length, map, take, Bor, refl, sym, ap, subst, ◌∙◌, arith}
-use Rattle.std.specs.Prelude.{filter}
+use Rattle.std.proofs.Common.{◌≡◌, ℕ, Bool, true, false, ◌&&◌, ◌||◌, eqb, leb, List, [], ◌∷◌, length, map, take, Bor, refl, sym, ap, subst, ◌∙◌, arith}
 use Rattle.std.specs.List.{list_any}
 use Rattle.std.proofs.lemmas.List.{take_all, length-map}
 use Rattle.std.proofs.lemmas.List.Folds.{list_any-append}
@@ -8,11 +7,9 @@ use Rattle.history.specs.Prefixes.{graphs}
 use Rattle.package_index.proofs.Matching.{any-more}
 use Rattle.package_index.proofs.Rising.{has}
 use Rattle.set_hits.specs.Places.{Place, places_of}
-use Rattle.repo_index.specs.Index.{Kept, Noted, AscendFrom, kept_seen, found, has_at, picked}
-use Rattle.repo_index.specs.Listing.{hit_indexes}
+use Rattle.repo_index.specs.Index.{Index, Kept, AscendFrom, kept_seen, found, has_at, picked}
 use Rattle.repo_index.proofs.AllHits.{all-hits}
 use Rattle.repo_index.proofs.Listing.{alike}
-use Rattle.repo_index.proofs.Noting.{found-seen}
 use Rattle.repo_index.proofs.Picked.{picked-rising, picked-members, picked-fewer}
 use Rattle.repo_index.proofs.Placing.{any-map, any-both}
 use Rattle.repo_index.proofs.Zipped.{one-item}
@@ -24,10 +21,10 @@ or-false false = refl
 
 pub returns-in-len1 : goal.returns-in-len1
 returns-in-len1 c = λ p commit is at.
-    let self : List Noted = c.args.self.now in
+    let self : Index = c.args.self.now in
     let place = c.place-item.result in
-    let ks : List Kept = map kept_seen c.get.result.now in
-    let here : ks ≡ found self place.0.now = ap (map kept_seen) c.get.ensures ∙ sym (found-seen c.self.inside.noted place.0.now) ∙ ap (λ (m : List Noted). found m place.0.now) c.self.view_is in
+    let ks : List Kept = map kept_seen c.under.result.now in
+    let here : ks ≡ found self place.0.now = c.under.ensures in
     let places : (place.0.now, place.1) ∷ [] ≡ places_of (graphs p) commit =
     sym (ap (map (λ x. (x.0.now, x.1))) (one-item c.args.places.now place c.in-len1.len_at_least c.in-len1.len_below c.place-item.is)) ∙ at
     in
@@ -42,17 +39,17 @@ returns-in-len1 c = λ p commit is at.
 
 pub loop-place-preserved : goal.loop-place-preserved
 loop-place-preserved c = λ up i.
-    let self : List Noted = c.args.self.now in
+    let self : Index = c.args.self.now in
     let places = c.args.places.now in
     let k : ℕ = c.loop-place.place-index in
     let place = c.place-item-in-loop-place.result in
     let start : ℕ = c.args.start in
-    let ks : List Kept = map kept_seen c.get-kept.result.now in
-    let here : ks ≡ found self place.0.now = ap (map kept_seen) c.get-kept.ensures ∙ sym (found-seen c.self.inside.noted place.0.now) ∙ ap (λ (m : List Noted). found m place.0.now) c.self.view_is in
+    let ks : List Kept = map kept_seen c.under-kept.result.now in
+    let here : ks ≡ found self place.0.now = c.under-kept.ensures in
     let rising : AscendFrom 0 ks = subst (λ (xs : List Kept). AscendFrom 0 xs) (sym here) (up place.0.now) in
     let all = picked place.1 start ks in
     let own : c.as_slice.result.now ≡ all =
-    c.as_slice.ensures.value ∙ c.in_ok-own.ensures ∙ take_all (length c.get-kept.result.now) all (omega (arith, picked-fewer place.1 start ks, length-map c.get-kept.result.now kept_seen))
+    c.as_slice.ensures.value ∙ c.in_ok-own.ensures ∙ take_all (length c.under-kept.result.now) all (omega (arith, picked-fewer place.1 start ks, length-map c.under-kept.result.now kept_seen))
     in
     let test = λ (x : Bor (List ℕ) × ℕ). leb start i && list_any (has_at x.1 i) (found self x.0.now) in
     ap (λ (xs : List ℕ). has xs i) c.in_ok-extend_from_slice.ensures.items ∙ list_any-append (λ x. eqb x i) c.loop-place.indexes.items c.as_slice.result.now
@@ -63,7 +60,7 @@ loop-place-preserved c = λ up i.
 
 pub returns : goal.returns
 returns c = λ p commit is at.
-    let self : List Noted = c.args.self.now in
+    let self : Index = c.args.self.now in
     let places = c.args.places.now in
     let start : ℕ = c.args.start in
     let items : List ℕ = c.sort_distinct.new.items.items in

@@ -1,7 +1,7 @@
 use Rattle.std.proofs.Common.{List, sym, subst}
 use Rattle.impact_job.specs.Tables.{AreSetsOf}
 use Rattle.repo_index.proofs.Zipped.{at-both, none-at}
-use Rattle.repo_index.proofs.adding.sets_at.Goals as goal
+use Rattle.repo_index.proofs.lists.sets_at.Goals as goal
 
 pub returns-in-Some : goal.returns-in-Some
 returns-in-Some c = λ p advisories r all at.
