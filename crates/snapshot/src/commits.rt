@@ -5,6 +5,7 @@ ghost use Rattle.osv_record.specs.Advisories.{Advisory};
 ghost use Rattle.history.specs.declared.past.Past.{Past};
 ghost use Rattle.history.specs.Prefixes.{graphs, records};
 ghost use Rattle.impact_job.specs.Tables.{AreSetsOf};
+ghost use Rattle.record_moves.specs.Moved.{IsMoved};
 ghost use Rattle.repo_index.specs.Index.{IsIndexOf};
 ghost use Rattle.set_hits.specs.Places.{places_of};
 ghost use Rattle.snapshot.specs.Subjects.{is_commit_hit};
@@ -15,24 +16,27 @@ use crate::page::Found;
 use impact_set::ImpactSet;
 use osv_prim::{Ledger, List, Memory, PackageKey, RepoKey, Steps};
 use osv_record::Record;
+use record_moves::Moves;
 use repo_index::{RepoIndex, sets_at};
 use set_hits::git_hit;
 use std::alloc::Global;
 use std::sync::Arc;
 
-/// The sets of GIT ranges under each repository. It is refused, as for want of memory, where there are 2^32
-/// advisories.
-pub(crate) fn repo_index_of(
+/// The sets of GIT ranges under each repository, from the index of the list before and where its advisories are
+/// in this one. It is refused, as for want of memory, where there are 2^32 advisories.
+pub(crate) fn renewed_repos(
     alloc: Global,
     advisories: &[Arc<Record>],
+    base: &RepoIndex,
+    moves: &Moves,
     sets: &[List<Arc<ImpactSet>>],
 ) -> Result<RepoIndex, Memory>
-    ensures { (p : List Past) → map (λ a. arc_value a) advisories.now ≡ records p → AllZip (AreSetsOf p) (records p) sets.now → IfOk result (λ index. IsIndexOf index p) }
+    ensures { (b p : List Past) → IsIndexOf base.now b → IsMoved moves.now (records b) (records p) → map (λ a. arc_value a) advisories.now ≡ records p → AllZip (AreSetsOf p) (records p) sets.now → IfOk result (λ index. IsIndexOf index p) }
 {
     if advisories.len() >= INDEXES {
         return Err(Memory);
     }
-    RepoIndex::build(alloc, advisories, sets)
+    base.renew(alloc, advisories, moves, sets)
 }
 
 /// How many advisories that affect a commit are to be looked at, of so many in all: one more than a page has

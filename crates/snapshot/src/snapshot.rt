@@ -15,7 +15,7 @@ ghost use Rattle.snapshot.specs.Snapshots.{StandsFor, snapshot_upto};
 ghost use Rattle.snapshot.specs.Pages.{is_above, cut, page, found_seen, page_seen};
 ghost use Rattle.snapshot.specs.Subjects.{is_package_hit, is_commit_hit};
 
-use crate::commits::{first_commit_hits, most_of, repo_index_of};
+use crate::commits::{first_commit_hits, most_of, renewed_repos};
 use crate::packages::{as_text, first_package_hits, from_index, renewed_index};
 use crate::page::{Found, Page, shared};
 use crate::ranges::read_version;
@@ -221,7 +221,7 @@ pub(crate) fn of_tables(
 {
     let records = kept.records.as_slice();
     let packages = renewed_index(alloc, records, &base.packages, moves)?;
-    let repos = repo_index_of(alloc, records, kept.sets.as_slice())?;
+    let repos = renewed_repos(alloc, records, &base.repos, moves, kept.sets.as_slice())?;
     let ranges = base.ranges.renew(alloc, records, moves)?;
     let ids = base.ids.renew(alloc, records, moves)?;
     Ok(Snapshot {

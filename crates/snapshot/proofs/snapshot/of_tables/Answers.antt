@@ -23,7 +23,7 @@ returns-clause-stands c = λ b p old moved s.
       packages = λ asked.
           c.in_ok-packages.ensures (records b) here (λ key. old.packages key ∙ ap (λ (rs : List Advisory). listed rs key) old.tables.kept) asked
           ∙ ap (λ (rs : List _). listed (map (λ a. arc_value a) rs) asked) items;
-      repos = c.in_ok-repos.ensures p kept (subst (λ (ks : List (List _)). AllZip (AreSetsOf p) (records p) ks) (sym (c.as_slice.ensures.value ∙ ap (λ (t : Tables). t.sets.items) c.deref-3.ensures)) s.sets);
+      repos = c.in_ok-repos.ensures b p old.repos moved kept (subst (λ (ks : List (List _)). AllZip (AreSetsOf p) (records p) ks) (sym (c.as_slice.ensures.value ∙ ap (λ (t : Tables). t.sets.items) c.deref-3.ensures)) s.sets);
       ranges = subst (λ (rs : List _). AreIndexed (map (λ a. arc_value a) rs) c.in_ok-ranges.ranges) items (c.in_ok-ranges.ensures (records b) here compiled);
       ids =
           subst (λ (rs : List _). IsIndexOf c.in_ok-ids.ids (map (λ a. arc_value a) rs)) items
