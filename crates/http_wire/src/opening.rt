@@ -13,7 +13,7 @@ use crate::parse::parse_head;
 use crate::request::Request;
 use crate::room::{Room, limit_at};
 use edge_io::Source;
-use httparse::spans::{EMPTY_HEADER_SPAN, HeaderSpan, RequestSpans};
+use httparse::spans::{HeaderSpan, RequestSpans};
 use std::alloc::Global;
 
 /// The front of a request.
@@ -56,19 +56,20 @@ fn take_head(alloc: Global, held: &mut Held, skipped: usize, len: usize, room: R
     ensures judges { Judges room (take len (drop skipped held.old)) result }
     ensures held { held.new ≡ drop (skipped + len) held.old }
 {
-    let bytes = held.as_slice();
+    let bytes = held.window.as_slice();
     let end = skipped + len;
-    let opened = judge(alloc, &bytes[skipped..end], room);
+    let opened = judge(alloc, &bytes[skipped..end], &mut held.lines, room);
     held.consume(end);
     opened
 }
 
-fn judge(alloc: Global, bytes: &[u8], room: Room) -> Opened
+// Judges a head. `lines` has room for all its header lines.
+fn judge(alloc: Global, bytes: &[u8], lines: &mut [HeaderSpan], room: Room) -> Opened
+    requires { length lines.old ≡ 100 }
     ensures { Judges room bytes.now result }
 {
-    let mut lines = [EMPTY_HEADER_SPAN; 100];
-    match parse_head(bytes, &mut lines) {
-        Some(spans) => accept(alloc, bytes, spans, &lines, room),
+    match parse_head(bytes, lines) {
+        Some(spans) => accept(alloc, bytes, spans, lines, room),
         None => Opened::Refused(WireFault::BadHead),
     }
 }

@@ -1,4 +1,4 @@
-use osv_prim::Bytes;
+use crate::reply_body::ReplyBody;
 
 /// The method that a path has.
 #[derive(Clone, Copy, Debug, PartialEq, Eq)]
@@ -10,7 +10,7 @@ pub enum Allow {
 /// A reply, whose body is JSON.
 #[derive(Debug, Drop)]
 pub struct Reply {
-    pub body: Bytes,
+    pub body: ReplyBody,
     /// The snapshot that the body is of, in `x-osv-snapshot`.
     pub snapshot: Option<u64>,
     /// The method that the path has, in `allow` (RFC 9110, section 10.2.1).

@@ -1,4 +1,4 @@
-ghost use Rattle.std.specs.Prelude.{◌≡◌, ◌<◌, ◌≤◌, ◌++◌, length, take, OnOk, IfErr};
+ghost use Rattle.std.specs.Prelude.{◌≡◌, ◌<◌, ◌≤◌, ◌+◌, ◌++◌, length, take, drop, OnOk, IfErr};
 ghost use Rattle.std.specs.Io.KnownBytes.{Appends};
 ghost use Rattle.edge_io.specs.Causes.{HasCause};
 ghost use Rattle.http_wire.specs.Replies.{HasPhrase, spelled, no_memory};
@@ -8,24 +8,58 @@ use crate::out::Out;
 use crate::reply::Reply;
 use edge_io::{Sink, SinkFault, write_whole};
 
-/// Writes a reply: from `out` in one write where head and body have at most 65,536 bytes together, else
-/// in two. It takes no memory.
+/// Writes a reply: in one write where its body was put behind room for a head, or has at most 65,536 bytes with its
+/// head, else in two. It takes no memory, and keeps the body's for the next reply.
 #[tactic(auto, unfolding(crate::specs::Replies::spelled))]
-pub fn write_reply<K: Sink>(sink: &mut K, out: &mut Out, reply: &Reply) -> Result<(), SinkFault>
-    requires { HasPhrase reply.now.status }
-    ensures ok { OnOk result (Appends (K.held sink.old) (K.held sink.new) (spelled reply.now)) }
-    ensures err { IfErr result (λ f. Appends (K.held sink.old) (K.held sink.new) (take f.out (spelled reply.now))) }
-    ensures within { IfErr result (λ f. f.out < length (spelled reply.now)) }
+pub fn write_reply<K: Sink>(sink: &mut K, out: &mut Out, reply: Reply) -> Result<(), SinkFault>
+    requires { HasPhrase reply.status }
+    ensures ok { OnOk result (Appends (K.held sink.old) (K.held sink.new) (spelled reply)) }
+    ensures err { IfErr result (λ f. Appends (K.held sink.old) (K.held sink.new) (take f.out (spelled reply))) }
+    ensures within { IfErr result (λ f. f.out < length (spelled reply)) }
     ensures cause { HasCause (K.faults sink.old) (K.faults sink.new) result }
 {
     out.clear();
-    put_head(out, reply);
-    let body = reply.body.as_slice();
+    put_head(out, &reply);
+    let (mut bytes, start) = reply.body.into_parts();
+    let result = write_behind(sink, out, &mut bytes, start);
+    out.keep(bytes);
+    result
+}
+
+// Writes what `out` has, and then the bytes from `start` on.
+fn write_behind<K: Sink>(
+    sink: &mut K,
+    out: &mut Out,
+    bytes: &mut [u8],
+    start: usize,
+) -> Result<(), SinkFault>
+    requires short { length out.old ≤ 256 }
+    requires within { start ≤ length bytes.old }
+    ensures ok { OnOk result (Appends (K.held sink.old) (K.held sink.new) (out.old ++ drop start bytes.old)) }
+    ensures err { IfErr result (λ f. Appends (K.held sink.old) (K.held sink.new) (take f.out (out.old ++ drop start bytes.old))) }
+    ensures within { IfErr result (λ f. f.out < length (out.old ++ drop start bytes.old)) }
+    ensures cause { HasCause (K.faults sink.old) (K.faults sink.new) result }
+{
+    let head = out.as_slice();
+    if head.len() <= start {
+        let front = start - head.len();
+        put_before(bytes, front, head);
+        return write_whole(sink, &bytes[front..]);
+    }
+    let body = &bytes[start..];
     if out.has_room(body.len()) {
         out.put(body);
         return write_whole(sink, out.as_slice());
     }
     write_both(sink, out.as_slice(), body)
+}
+
+// Puts a text where the bytes from `front` on have room for it.
+fn put_before(bytes: &mut [u8], front: usize, text: &[u8])
+    requires { front + length text.now ≤ length bytes.old }
+    ensures { drop front bytes.new ≡ text.now ++ drop (front + length text.now) bytes.old }
+{
+    bytes[front..front + text.len()].copy_from_slice(text);
 }
 
 // Writes one text and then the other.
