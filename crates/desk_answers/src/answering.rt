@@ -14,7 +14,7 @@ use crate::repo::repo;
 use crate::request::route_of;
 use book_desk::Desk;
 use gate::Gate;
-use http_wire::Request;
+use http_wire::{Out, Request};
 use osv_prim::{Ledger, Memory, Steps};
 use osv_record::Buffers;
 use reply_json::Refusal;
@@ -23,8 +23,8 @@ use settings::Settings;
 use std::alloc::Global;
 use stream_body::{Commits, commits_in};
 
-/// Answers a request that was read, by the settings of the desk, in buffers that are kept from one request
-/// to the next. `come` is what came of its body where that was read as a stream and not kept. `closes` says
+/// Answers a request that was read, by the settings of the desk, in buffers and room for replies that are kept from one
+/// request to the next. `come` is what came of its body where that was read as a stream and not kept. `closes` says
 /// whether the connection closes behind the reply. Only memory can fail, and then the request has entered
 /// nothing, but that a publication may be there, whole or in part.
 pub fn answer<D: Desk, G: Gate, L: Ledger>(
@@ -36,6 +36,7 @@ pub fn answer<D: Desk, G: Gate, L: Ledger>(
     closes: bool,
     settings: &Settings,
     buffers: &mut Buffers,
+    out: &mut Out,
     steps: &mut Steps<L>,
 ) -> Result<Answered, Memory>
     requires { (D.caller desk.old).settings ≡ settings.now }
@@ -44,14 +45,14 @@ pub fn answer<D: Desk, G: Gate, L: Ledger>(
     let route = route_of(&request);
     let Some(come) = come else {
         return answer_at(
-            alloc, desk, gate, request, route, closes, settings, buffers, steps,
+            alloc, desk, gate, request, route, closes, settings, buffers, out, steps,
         );
     };
     if is_repo(route) {
         return repo(alloc, desk, &request, come, closes, settings.commits, steps);
     }
     answer_at(
-        alloc, desk, gate, request, route, closes, settings, buffers, steps,
+        alloc, desk, gate, request, route, closes, settings, buffers, out, steps,
     )
 }
 
@@ -72,6 +73,7 @@ fn answer_at<D: Desk, G: Gate, L: Ledger>(
     closes: bool,
     settings: &Settings,
     buffers: &mut Buffers,
+    out: &mut Out,
     steps: &mut Steps<L>,
 ) -> Result<Answered, Memory>
     requires { (D.caller desk.old).settings ≡ settings.now }
@@ -81,13 +83,31 @@ fn answer_at<D: Desk, G: Gate, L: Ledger>(
     match route {
         Route::NoPath => refused(alloc, Sign::Plain, closes, &Refusal::NoSuchPath),
         Route::WrongMethod(allow) => wrong_method(alloc, closes, allow),
-        Route::Query => query(alloc, desk, &request, closes, settings.page, buffers, steps),
-        Route::QueryBatch => batch(alloc, desk, &request, closes, settings.page, buffers, steps),
+        Route::Query => query(
+            alloc,
+            desk,
+            &request,
+            closes,
+            settings.page,
+            buffers,
+            out,
+            steps,
+        ),
+        Route::QueryBatch => batch(
+            alloc,
+            desk,
+            &request,
+            closes,
+            settings.page,
+            buffers,
+            out,
+            steps,
+        ),
         Route::Repo => {
             let come = commits_in(alloc, request.body.as_slice(), settings.commits);
             repo(alloc, desk, &request, come, closes, settings.commits, steps)
         }
-        Route::Vulns => vulns(alloc, desk, &request, closes),
+        Route::Vulns => vulns(alloc, desk, &request, closes, out),
         Route::Import => import(alloc, desk, request, closes, buffers),
         Route::Publish => publish(alloc, desk, gate, &request, closes, steps),
     }

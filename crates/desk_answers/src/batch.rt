@@ -15,11 +15,11 @@ use crate::reply::{Answered, of_snapshot, refused};
 use crate::request::least_of;
 use book_desk::{Desk, Kept, Newest};
 use desk_calls::find_all;
-use http_wire::Request;
+use http_wire::{Out, ReplyBody, Request};
 use osv_prim::{Ledger, Memory, Steps, Stop};
 use osv_record::Buffers;
 use query_json::{Query, QueryFault, read_batch_in};
-use reply_json::{Answer, Refusal, batch_body};
+use reply_json::{Answer, Refusal, put_batch};
 use session_model::Sign;
 use snapshot::Snapshot;
 use std::alloc::Global;
@@ -34,6 +34,7 @@ pub(crate) fn batch<D: Desk, L: Ledger>(
     closes: bool,
     size: u32,
     buffers: &mut Buffers,
+    out: &mut Out,
     steps: &mut Steps<L>,
 ) -> Result<Answered, Memory>
     requires { size ≡ (D.caller desk.old).settings.page }
@@ -58,7 +59,9 @@ pub(crate) fn batch<D: Desk, L: Ledger>(
                 return Err(Memory);
             };
             let numbers = numbers.as_slice();
-            answer_batch(alloc, desk, queries, numbers, least, closes, size, steps)
+            answer_batch(
+                alloc, desk, queries, numbers, least, closes, size, out, steps,
+            )
         }
     }
 }
@@ -93,6 +96,7 @@ fn answer_batch<D: Desk, L: Ledger>(
     least: u64,
     closes: bool,
     size: u32,
+    out: &mut Out,
     steps: &mut Steps<L>,
 ) -> Result<Answered, Memory>
     requires numbers { numbers.now ≡ map number_in queries.now }
@@ -114,6 +118,7 @@ fn answer_batch<D: Desk, L: Ledger>(
         found.kept.as_slice(),
         closes,
         size,
+        out,
         steps,
     )
 }
@@ -125,6 +130,7 @@ fn reply_of<L: Ledger>(
     found: &[Kept],
     closes: bool,
     size: u32,
+    out: &mut Out,
     steps: &mut Steps<L>,
 ) -> Result<Answered, Memory>
     requires { length queries.now < 2 ^ 32 }
@@ -133,8 +139,9 @@ fn reply_of<L: Ledger>(
 {
     match pages(alloc, queries, newest, found, size, steps) {
         Ok(pages) => {
-            let body = batch_body(alloc, pages.as_slice())?;
-            Ok(of_snapshot(closes, newest.number, body))
+            let mut body = out.room(alloc)?;
+            put_batch(&mut body, pages.as_slice())?;
+            Ok(of_snapshot(closes, newest.number, ReplyBody::behind_room(body)))
         }
         Err(Stop::Refused(refusal)) => refused(alloc, Sign::Looked, closes, &refusal),
         Err(Stop::Memory) => Err(Memory),

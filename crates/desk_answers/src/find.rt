@@ -12,7 +12,7 @@ use crate::reply::{Answered, of_snapshot, refused};
 use crate::request::{id_of, least_of};
 use book_desk::{Desk, Kept};
 use desk_calls::{kept_of, newest_of};
-use http_wire::Request;
+use http_wire::{Out, ReplyBody, Request};
 use osv_prim::Memory;
 use reply_json::Refusal;
 use session_model::Sign;
@@ -103,6 +103,7 @@ pub(crate) fn vulns<D: Desk>(
     desk: &mut D,
     request: &Request,
     closes: bool,
+    out: &mut Out,
 ) -> Result<Answered, Memory>
     ensures { GivesAt (D.caller desk.old) (D.caller desk.new) closes request.now routes.Vulns result }
 {
@@ -113,7 +114,7 @@ pub(crate) fn vulns<D: Desk>(
     let Ok(id) = id_of(alloc, request.path.as_slice()) else {
         return Err(Memory);
     };
-    find(alloc, desk, id.as_slice(), least, closes)
+    find(alloc, desk, id.as_slice(), least, closes, out)
 }
 
 fn find<D: Desk>(
@@ -122,6 +123,7 @@ fn find<D: Desk>(
     id: &[u8],
     least: u64,
     closes: bool,
+    out: &mut Out,
 ) -> Result<Answered, Memory>
     ensures { ShowsAs (D.caller desk.old) (D.caller desk.new) (vulns_reply closes (D.caller desk.new).front least id.now) result }
 {
@@ -135,7 +137,7 @@ fn find<D: Desk>(
         };
         return refused(alloc, Sign::Looked, closes, &refusal);
     }
-    found(alloc, &now.snapshot, now.number, id, closes)
+    found(alloc, &now.snapshot, now.number, id, closes, out)
 }
 
 fn found(
@@ -144,13 +146,15 @@ fn found(
     number: u64,
     id: &[u8],
     closes: bool,
+    out: &mut Out,
 ) -> Result<Answered, Memory>
     ensures { (p : List Past) → StandsFor snapshot.now p → IfOk result (λ a. (a.sign ≡ Looked) × (a.reply ≡ found_reply closes number (record_of p id.now))) }
 {
     match snapshot.find(id) {
         Some(advisory) => {
-            let text = advisory.text.as_slice().to_vec(alloc)?;
-            Ok(of_snapshot(closes, number, text))
+            let mut body = out.room(alloc)?;
+            body.extend_from_slice(advisory.text.as_slice())?;
+            Ok(of_snapshot(closes, number, ReplyBody::behind_room(body)))
         }
         None => refused(alloc, Sign::Looked, closes, &Refusal::NoSuchId),
     }

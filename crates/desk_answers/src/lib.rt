@@ -1,8 +1,8 @@
 //! What a request is answered, over any desk.
 //!
 //! ```
-//! let answered = answer(alloc, &mut desk, &OpenGate, request, None, closes, &settings, buffers, steps)?;
-//! write_reply(&mut sink, &answered.reply)?;
+//! let answered = answer(alloc, &mut desk, &OpenGate, request, None, closes, &settings, buffers, out, steps)?;
+//! write_reply(&mut sink, out, answered.reply)?;
 //! ```
 #![tactic(auto)]
 

@@ -14,12 +14,12 @@ use crate::find::{Shown, snapshot_for};
 use crate::reply::{Answered, of_snapshot, refused};
 use crate::request::least_of;
 use book_desk::Desk;
-use http_wire::Request;
+use http_wire::{Out, ReplyBody, Request};
 use osv_prim::{Ledger, Memory, Steps};
 use osv_record::Buffers;
 use page_token::Token;
 use query_json::{BatchFault, Query, QueryFault, read_query_in};
-use reply_json::{Answer, Refusal, answer_body};
+use reply_json::{Answer, Refusal, put_answer};
 use session_model::Sign;
 use snapshot::{Found, Snapshot};
 use std::alloc::Global;
@@ -32,6 +32,7 @@ pub(crate) fn query<D: Desk, L: Ledger>(
     closes: bool,
     size: u32,
     buffers: &mut Buffers,
+    out: &mut Out,
     steps: &mut Steps<L>,
 ) -> Result<Answered, Memory>
     requires { size ≡ (D.caller desk.old).settings.page }
@@ -47,7 +48,7 @@ pub(crate) fn query<D: Desk, L: Ledger>(
             let refusal = Refusal::BadQuery(BatchFault { index: None, fault });
             refused(alloc, Sign::Plain, closes, &refusal)
         }
-        Ok(query) => answer_query(alloc, desk, &query, least, closes, size, steps),
+        Ok(query) => answer_query(alloc, desk, &query, least, closes, size, out, steps),
     }
 }
 
@@ -58,6 +59,7 @@ fn answer_query<D: Desk, L: Ledger>(
     least: u64,
     closes: bool,
     size: u32,
+    out: &mut Out,
     steps: &mut Steps<L>,
 ) -> Result<Answered, Memory>
     ensures { ShowsAs (D.caller desk.old) (D.caller desk.new) (query_reply (D.caller desk.old).settings.keep size closes (D.caller desk.new).front least query.now) result }
@@ -65,7 +67,7 @@ fn answer_query<D: Desk, L: Ledger>(
     match snapshot_for(alloc, desk, least, named_by(&query.page)) {
         Ok(Shown::Not(refusal)) => refused(alloc, Sign::Looked, closes, &refusal),
         Ok(Shown::Here { number, snapshot }) => {
-            reply_of(alloc, &snapshot, number, query, closes, size, steps)
+            reply_of(alloc, &snapshot, number, query, closes, size, out, steps)
         }
         Err(_) => Err(Memory),
     }
@@ -87,12 +89,15 @@ fn reply_of<L: Ledger>(
     query: &Query,
     closes: bool,
     size: u32,
+    out: &mut Out,
     steps: &mut Steps<L>,
 ) -> Result<Answered, Memory>
     ensures { (p : List Past) → StandsFor snapshot.now p → IfOk result (λ a. (a.sign ≡ Looked) × (a.reply ≡ snapshot_reply closes number (answer_body (page_of size p number query.now)))) }
 {
     let answer = page(alloc, snapshot, number, query, size, steps)?;
-    Ok(of_snapshot(closes, number, answer_body(alloc, &answer)?))
+    let mut body = out.room(alloc)?;
+    put_answer(&mut body, &answer)?;
+    Ok(of_snapshot(closes, number, ReplyBody::behind_room(body)))
 }
 
 /// The page of a query, of a snapshot that has this number.

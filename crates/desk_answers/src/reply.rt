@@ -3,8 +3,8 @@ ghost use Rattle.http_wire.specs.Replies.{HasPhrase};
 ghost use Rattle.session_model.specs.Replies.{done_reply, snapshot_reply, refusal_reply, method_reply};
 ghost use Rattle.session_model.specs.declared.sign.Sign.TheVariants.{Plain, Looked};
 
-use http_wire::{Allow, Reply};
-use osv_prim::{Bytes, Memory};
+use http_wire::{Allow, Reply, ReplyBody};
+use osv_prim::Memory;
 use reply_json::{Refusal, refusal_body};
 use session_model::Sign;
 use std::alloc::Global;
@@ -22,7 +22,7 @@ pub(crate) fn done(sign: Sign, closes: bool, body: Vec<u8>) -> Answered
     ensures { (result.sign ≡ sign) × (result.reply ≡ done_reply closes body.items) }
 {
     let reply = Reply {
-        body: Bytes::from_vec(body),
+        body: ReplyBody::from_vec(body),
         snapshot: None,
         allow: None,
         status: 200,
@@ -32,11 +32,11 @@ pub(crate) fn done(sign: Sign, closes: bool, body: Vec<u8>) -> Answered
 }
 
 /// What was asked for, of a snapshot.
-pub(crate) fn of_snapshot(closes: bool, snapshot: u64, body: Vec<u8>) -> Answered
-    ensures { (result.sign ≡ Looked) × (result.reply ≡ snapshot_reply closes snapshot body.items) }
+pub(crate) fn of_snapshot(closes: bool, snapshot: u64, body: ReplyBody) -> Answered
+    ensures { (result.sign ≡ Looked) × (result.reply ≡ snapshot_reply closes snapshot body) }
 {
     let reply = Reply {
-        body: Bytes::from_vec(body),
+        body,
         snapshot: Some(snapshot),
         allow: None,
         status: 200,
@@ -58,7 +58,7 @@ pub(crate) fn refused(
     ensures { IfOk result (λ a. (a.sign ≡ sign) × (a.reply ≡ refusal_reply closes refusal.now)) }
 {
     let reply = Reply {
-        body: Bytes::from_vec(refusal_body(alloc, refusal)?),
+        body: ReplyBody::from_vec(refusal_body(alloc, refusal)?),
         snapshot: None,
         allow: None,
         status: refusal.status(),
@@ -72,7 +72,7 @@ pub(crate) fn wrong_method(alloc: Global, closes: bool, allow: Allow) -> Result<
     ensures { IfOk result (λ a. (a.sign ≡ Plain) × (a.reply ≡ method_reply closes allow)) }
 {
     let reply = Reply {
-        body: Bytes::from_vec(refusal_body(alloc, &Refusal::MethodNotAllowed)?),
+        body: ReplyBody::from_vec(refusal_body(alloc, &Refusal::MethodNotAllowed)?),
         snapshot: None,
         allow: Some(allow),
         status: 405,

@@ -1,5 +1,5 @@
 ghost use Rattle.std.specs.Prelude.{◌≡◌, true, IfOk, length, drop, option_map, codes};
-ghost use Rattle.std.specs.Cow.{cow_str_bytes};
+ghost use Rattle.std.specs.Cow.{cow_slice_items, cow_str_bytes};
 ghost use Rattle.std.specs.Str.{bytes_eq};
 ghost use Rattle.form_urlencoded.specs.Form.{raw_pairs};
 ghost use Rattle.http_wire.specs.Replies.{method_of};
@@ -13,7 +13,7 @@ use osv_prim::{Bytes, Memory, RepoKey, read_u64};
 use percent_encoding::percent_decode;
 use session_model::Route;
 use std::alloc::Global;
-use std::borrow::CowStr;
+use std::borrow::{CowSlice, CowStr};
 
 /// Where a request leads to.
 #[tactic(auto, unfolding(session_model::specs::Routes::route_of))]
@@ -86,12 +86,10 @@ pub(crate) fn least_of(min: &Option<Bytes>) -> Option<u64>
 }
 
 /// The id that a path of an advisory names, decoded.
-pub(crate) fn id_of(alloc: Global, path: &[u8]) -> Result<Vec<u8>, Memory>
-    ensures { IfOk result (λ id. id.items ≡ id_of path.now) }
+pub(crate) fn id_of(alloc: Global, path: &[u8]) -> Result<CowSlice<'_, u8>, Memory>
+    ensures { IfOk result (λ id. cow_slice_items id ≡ id_of path.now) }
 {
-    let mut id = Vec::new(alloc);
-    percent_decode(behind_vulns(path)).append_to(&mut id)?;
-    Ok(id)
+    Ok(percent_decode(behind_vulns(path)).into_cow(alloc)?)
 }
 
 fn behind_vulns(path: &[u8]) -> &[u8]

@@ -2,8 +2,8 @@ ghost use Rattle.std.specs.Prelude.{◌≡◌, IfOk, string_bytes};
 ghost use Rattle.http_wire.specs.Replies.{HasPhrase};
 ghost use Rattle.session_model.specs.Replies.{wire_message, wire_reply, wire_status};
 
-use http_wire::{Reply, WireFault};
-use osv_prim::{Bytes, Memory};
+use http_wire::{Reply, ReplyBody, WireFault};
+use osv_prim::Memory;
 use reply_json::body_of;
 use std::alloc::{AllocError, Global};
 
@@ -16,7 +16,7 @@ pub(crate) fn refusal_of(alloc: Global, fault: WireFault) -> Result<Reply, Memor
     let message = message_of(alloc, fault)?;
     let body = body_of(alloc, fault.code(), message.as_str())?;
     Ok(Reply {
-        body: Bytes::from_vec(body),
+        body: ReplyBody::from_vec(body),
         snapshot: None,
         allow: None,
         status: status_of(fault),

@@ -58,21 +58,22 @@ pub(crate) fn serve<D: Desk, G: Gate, K: Sink, L: Ledger>(
         close || last,
         settings,
         buffers,
+        out,
         steps,
     ) {
         Ok(answered) => {
             mark(marks, desk.point(), answered.sign);
-            send(sink, out, &answered.reply, close, last)
+            send(sink, out, answered.reply, close, last)
         }
         Err(_) => Some(fail(sink)),
     }
 }
 
 // Writes the reply to a request that asks for close or not.
-fn send<K: Sink>(sink: &mut K, out: &mut Out, reply: &Reply, close: bool, last: bool) -> Option<End>
-    requires { HasPhrase reply.now.status }
+fn send<K: Sink>(sink: &mut K, out: &mut Out, reply: Reply, close: bool, last: bool) -> Option<End>
+    requires { HasPhrase reply.status }
     ensures goes { GoesOn close last result }
-    ensures writes { Writes (K.held sink.old) (spelled reply.now) result (K.held sink.new) }
+    ensures writes { Writes (K.held sink.old) (spelled reply) result (K.held sink.new) }
     ensures more { result ≡ None → last ≡ false }
     ensures later { K.faults sink.old ≤ K.faults sink.new }
     ensures fault { IsSomeFault result → Rose (K.faults sink.old) (K.faults sink.new) }

@@ -69,7 +69,7 @@ fn refuse<K: Sink>(alloc: Global, sink: &mut K, out: &mut Out, fault: WireFault)
     let Ok(reply) = refusal_of(alloc, fault) else {
         return fail(sink);
     };
-    match write_reply(sink, out, &reply) {
+    match write_reply(sink, out, reply) {
         Ok(()) => End::Refused(fault),
         Err(fault) => End::WriteFault { out: fault.out },
     }

@@ -1,11 +1,10 @@
-ghost use Rattle.std.specs.Prelude.{◌≡◌, ◌++◌, OnOk, IfOk, map, flat_map, option_map, slice_get};
+ghost use Rattle.std.specs.Prelude.{◌≡◌, ◌++◌, OnOk, codes, map, flat_map, option_map, slice_get};
 ghost use Rattle.std.specs.Arc.{arc_value};
 ghost use Rattle.reply_json.specs.Answers.{advisory_text, answer_body, answer_in, batch_body, behind_comma, listed, next_page, page_text, token_behind};
 
 use crate::writing::{push, push_number};
 use osv_prim::Memory;
 use osv_record::Record;
-use std::alloc::Global;
 use std::sync::Arc;
 
 /// What a query is answered with.
@@ -145,24 +144,28 @@ fn room_for(answer: &Answer) -> usize {
     )
 }
 
-/// The body of the reply to a query (OSV.dev API v1, "POST /v1/query"), in one buffer: the advisories'
-/// bytes as they came in, and the page token where hits remain. Of an empty page it is `{}`.
-pub fn answer_body(alloc: Global, answer: &Answer) -> Result<Vec<u8>, Memory>
-    ensures { IfOk result (λ b. b.items ≡ answer_body (answer_in answer.now)) }
+// Puts the pages, and the end of the batch.
+fn push_all_pages(out: &mut Vec<u8>, answers: &[Answer]) -> Result<(), Memory>
+    ensures { OnOk result (out.new.items ≡ out.old.items ++ (listed (map (page_text Form.Brief) (map answer_in answers.now)) ++ codes "]}")) }
 {
-    let mut out = Vec::with_capacity(alloc, room_for(answer))?;
-    push_page(&mut out, Form::Whole, answer)?;
-    Ok(out)
+    push_pages(out, answers)?;
+    push(out, b"]}")
 }
 
-/// The body of the reply to a batch (OSV.dev API v1, "POST /v1/querybatch"), in one buffer: for each
-/// query, in their order, the ids of its page and when the advisories were modified.
-pub fn batch_body(alloc: Global, answers: &[Answer]) -> Result<Vec<u8>, Memory>
-    ensures { IfOk result (λ b. b.items ≡ batch_body (map answer_in answers.now)) }
+/// Puts the body of the reply to a query (OSV.dev API v1, "POST /v1/query") behind what `out` has: the advisories'
+/// bytes as they came in, and the page token where hits remain. Of an empty page it is `{}`.
+pub fn put_answer(out: &mut Vec<u8>, answer: &Answer) -> Result<(), Memory>
+    ensures { OnOk result (out.new.items ≡ out.old.items ++ answer_body (answer_in answer.now)) }
 {
-    let mut out = Vec::new(alloc);
-    push(&mut out, b"{\"results\":[")?;
-    push_pages(&mut out, answers)?;
-    push(&mut out, b"]}")?;
-    Ok(out)
+    out.reserve(room_for(answer))?;
+    push_page(out, Form::Whole, answer)
+}
+
+/// Puts the body of the reply to a batch (OSV.dev API v1, "POST /v1/querybatch") behind what `out` has: for each
+/// query, in their order, the ids of its page and when the advisories were modified.
+pub fn put_batch(out: &mut Vec<u8>, answers: &[Answer]) -> Result<(), Memory>
+    ensures { OnOk result (out.new.items ≡ out.old.items ++ batch_body (map answer_in answers.now)) }
+{
+    push(out, b"{\"results\":[")?;
+    push_all_pages(out, answers)
 }

@@ -2,7 +2,7 @@
 //!
 //! ```
 //! let answer = Answer { snapshot: 7, found: found.hits, more: found.more };
-//! let body = answer_body(alloc, &answer)?; // {"vulns":[..],"next_page_token":"7~GHSA-1"}
+//! put_answer(&mut body, &answer)?; // {"vulns":[..],"next_page_token":"7~GHSA-1"}
 //! let body = refusal_body(alloc, &Refusal::NoSuchId)?; // {"code":11,"message":"no such id"}
 //! ```
 #![tactic(auto)]
@@ -12,6 +12,6 @@ mod plain;
 mod refusal;
 mod writing;
 
-pub use answer::{Answer, answer_body, batch_body};
+pub use answer::{Answer, put_answer, put_batch};
 pub use plain::{building_body, commits_body, entry_body, published_body};
 pub use refusal::{Refusal, body_of, refusal_body};

@@ -9,7 +9,7 @@ use osv_prim::Memory;
 use osv_record::Record;
 use refused::refusal_in;
 use reply_json::{
-    Answer, answer_body, batch_body, building_body, commits_body, entry_body, published_body,
+    Answer, building_body, commits_body, entry_body, published_body, put_answer, put_batch,
     refusal_body,
 };
 use std::alloc::Global;
@@ -61,7 +61,15 @@ fn answer_of<'a>(
 fn page_of(alloc: Global, snapshot: &str, more: &str, texts: &str) -> Result<Vec<u8>, Memory> {
     let advisories = advisories_of(alloc, texts)?;
     let answer = answer_of(alloc, snapshot, more, advisories.as_slice())?;
-    answer_body(alloc, &answer)
+    let mut body = Vec::new(alloc);
+    put_answer(&mut body, &answer)?;
+    Ok(body)
+}
+
+fn batch_body(alloc: Global, answers: &[Answer]) -> Result<Vec<u8>, Memory> {
+    let mut body = Vec::new(alloc);
+    put_batch(&mut body, answers)?;
+    Ok(body)
 }
 
 fn pages_of(
