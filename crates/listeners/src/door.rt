@@ -117,7 +117,7 @@ impl<'a, R: Net<Listener = TcpListener, Stream = TcpStream> + Clock> TcpDoor<'a,
         let stream = accepted(self.listener.as_ref()?)?;
         // A client that only gets its bytes later is served all the same.
         let _ = stream.set_nodelay(true);
-        let link = Arc::new(self.alloc, Link::new(self.rt, stream)).ok()?;
+        let link = Arc::new(self.alloc, Link::new(self.rt, stream).ok()?).ok()?;
         let same = Arc::try_clone(&link).ok()?;
         Some((
             ReadEnd::new(TcpSource { link: same }),

@@ -5,7 +5,7 @@ use crate::allowance::Allowance;
 use std::io;
 use std::io::{ErrorKind, Read, Write};
 use std::net::{Shutdown, TcpStream};
-use std::sync::atomic::{AtomicBool, AtomicU64, Ordering};
+use std::sync::atomic::{AtomicU64, Ordering};
 use std::time::{Clock, Duration, Instant};
 
 /// A connection. It is closed in two steps (RFC 9112, section 9.6): a socket that is closed with bytes of the client unread
@@ -15,14 +15,22 @@ use std::time::{Clock, Duration, Instant};
 pub(crate) struct Link<'a, R: Clock> {
     clock: &'a R,
     stream: TcpStream,
-    // Which way bytes went last, and what the client has spent of its allowance since they go that way.
-    is_writing: AtomicBool,
-    waited: AtomicU64,
+    start: Instant,
+    // Which way bytes went last, when since the start they began to go that way, in nanoseconds, and how many went.
+    way: AtomicU64,
+    since: AtomicU64,
     moved: AtomicU64,
     // The limits of time that the socket has, in nanoseconds; 0: none.
     read_limit: AtomicU64,
     write_limit: AtomicU64,
 }
+
+// The ways.
+const NEITHER: u64 = 0;
+
+const READING: u64 = 1;
+
+const WRITING: u64 = 2;
 
 // How many milliseconds the client has to close its side once ours is closed.
 const LINGER_MILLIS: u64 = 250;
@@ -36,16 +44,17 @@ const LINGER_BYTES: usize = 4_096;
 const SIGNALS: u32 = 100;
 
 impl<'a, R: Clock> Link<'a, R> {
-    pub(crate) fn new(clock: &'a R, stream: TcpStream) -> Link<'a, R> {
-        Link {
+    pub(crate) fn new(clock: &'a R, stream: TcpStream) -> io::Result<Link<'a, R>> {
+        Ok(Link {
             clock,
             stream,
-            is_writing: AtomicBool::new(false),
-            waited: AtomicU64::new(0),
+            start: Instant::now(clock)?,
+            way: AtomicU64::new(NEITHER),
+            since: AtomicU64::new(0),
             moved: AtomicU64::new(0),
             read_limit: AtomicU64::new(0),
             write_limit: AtomicU64::new(0),
-        }
+        })
     }
 
     /// Reads for at most as long as is left of the allowance.
@@ -53,10 +62,9 @@ impl<'a, R: Clock> Link<'a, R> {
         ensures { ReadsAtMost result into.new }
     {
         for _ in 0..SIGNALS {
-            self.limit_reads(self.left(false)?)?;
-            let start = Instant::now(self.clock)?;
+            self.limit_reads(self.left(READING)?)?;
             let res = (&self.stream).read(into);
-            self.spend(start.elapsed(self.clock)?, &res);
+            self.count(&res);
             if !is_cut_off(&res) {
                 return res;
             }
@@ -69,14 +77,13 @@ impl<'a, R: Clock> Link<'a, R> {
         ensures { WritesAtMost result piece.now }
     {
         for _ in 0..SIGNALS {
-            self.limit_writes(self.left(true)?)?;
-            let start = Instant::now(self.clock)?;
+            self.limit_writes(self.left(WRITING)?)?;
             let res = (&self.stream).write(piece);
             if is_whole(&res, piece.len()) {
-                self.renew();
+                set(&self.way, NEITHER);
                 return res;
             }
-            self.spend(start.elapsed(self.clock)?, &res);
+            self.count(&res);
             if !is_cut_off(&res) {
                 return res;
             }
@@ -85,38 +92,31 @@ impl<'a, R: Clock> Link<'a, R> {
     }
 
     // What is left for bytes that go this way, which begins anew where the last ones went the other way.
-    fn left(&self, is_writing: bool) -> io::Result<Duration> {
-        if self.is_writing.load(Ordering::SeqCst) != is_writing {
-            self.is_writing.store(is_writing, Ordering::SeqCst);
-            self.renew();
+    fn left(&self, way: u64) -> io::Result<Duration> {
+        let now = nanos_of(self.start.elapsed(self.clock)?);
+        if set(&self.way, way) {
+            self.since.store(now, Ordering::SeqCst);
+            set(&self.moved, 0);
         }
-        let left = self.spent().left();
+        let left = self.spent(now).left();
         if left.is_zero() {
             return Err(io::Error::from(ErrorKind::TimedOut));
         }
         Ok(left)
     }
 
-    fn renew(&self) {
-        set(&self.waited, 0);
-        set(&self.moved, 0);
-    }
-
-    fn spent(&self) -> Allowance {
-        let waited = self.waited.load(Ordering::SeqCst);
+    fn spent(&self, now: u64) -> Allowance {
+        let waited = now.saturating_sub(self.since.load(Ordering::SeqCst));
         Allowance::spent(
             Duration::from_nanos(waited),
             self.moved.load(Ordering::SeqCst),
         )
     }
 
-    fn spend(&self, waited: Duration, res: &io::Result<usize>) {
-        let moved = match res {
-            Ok(count) => *count as u64,
-            Err(_) => 0,
-        };
-        self.waited.fetch_add(nanos_of(waited), Ordering::SeqCst);
-        self.moved.fetch_add(moved, Ordering::SeqCst);
+    fn count(&self, res: &io::Result<usize>) {
+        if let Ok(count) = res {
+            self.moved.fetch_add(*count as u64, Ordering::SeqCst);
+        }
     }
 
     // A limit that the socket has already is not set again.
@@ -153,8 +153,9 @@ impl<'a, R: Clock> Drop for Link<'a, R> {
         let Link {
             clock,
             stream,
-            is_writing: _,
-            waited: _,
+            start: _,
+            way: _,
+            since: _,
             moved: _,
             read_limit: _,
             write_limit: _,
