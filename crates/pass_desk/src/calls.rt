@@ -8,7 +8,8 @@ ghost use Rattle.snapshot.specs.Snapshots.{StandsFor};
 ghost use Rattle.pass_desk.specs.Turns.{AreSound, IsStep};
 ghost use Rattle.pass_desk.specs.Lasting.{call_lasts, grow_lasts, pull_lasts, finish_lasts, give_back_lasts};
 
-use book::{Book, Gone};
+use crate::boxed_book::BoxedBook;
+use book::Gone;
 use book_desk::{
     CallersSpent, GrowFault, ImportFault, Kept, Newest, Progress, Pulled, Strange, Taken,
 };
@@ -23,18 +24,18 @@ use turn_lock::Call;
 #[derive(Drop)]
 pub struct Enrol;
 
-impl Call<Book> for Enrol {
+impl Call<BoxedBook> for Enrol {
     type Answer = Result<u64, CallersSpent>;
 
     ghost needs = { λ c by h n. Unit {0} };
 
     ghost does = { λ c by s a t. Enrols s a t × AreSound s t };
 
-    fn act(self, by: u64, state: &mut Book) -> Result<u64, CallersSpent> {
+    fn act(self, by: u64, state: &mut BoxedBook) -> Result<u64, CallersSpent> {
         let _by = by;
-        let _found = state.point();
-        let answer = state.enrol();
-        let _left = state.point();
+        let _found = state.book.point();
+        let answer = state.book.enrol();
+        let _left = state.book.point();
         answer
     }
 
@@ -45,17 +46,17 @@ impl Call<Book> for Enrol {
 #[derive(Drop)]
 pub struct CountImports;
 
-impl Call<Book> for CountImports {
+impl Call<BoxedBook> for CountImports {
     type Answer = u64;
 
     ghost needs = { λ c by h n. Unit {0} };
 
     ghost does = { λ c by s a t. CountsImports s a t × IsStep s t };
 
-    fn act(self, by: u64, state: &mut Book) -> u64 {
+    fn act(self, by: u64, state: &mut BoxedBook) -> u64 {
         let _by = by;
-        let _found = state.point();
-        state.imports()
+        let _found = state.book.point();
+        state.book.imports()
     }
 
     ghost lasts = { λ c by xs ys n m h p le. tt };
@@ -67,17 +68,17 @@ pub struct Import {
     pub advisory: Arc<Record>,
 }
 
-impl Call<Book> for Import {
+impl Call<BoxedBook> for Import {
     type Answer = Result<u64, ImportFault>;
 
     ghost needs = { λ c by h n. MayCall by h n };
 
     ghost does = { λ c by s a t. Imports by (arc_value c.advisory) s a t × IsStep s t };
 
-    fn act(self, by: u64, state: &mut Book) -> Result<u64, ImportFault> {
-        let _found = state.point();
-        let answer = state.import(by, self.advisory);
-        let _left = state.point();
+    fn act(self, by: u64, state: &mut BoxedBook) -> Result<u64, ImportFault> {
+        let _found = state.book.point();
+        let answer = state.book.import(by, self.advisory);
+        let _left = state.book.point();
         answer
     }
 
@@ -90,17 +91,17 @@ pub struct ShowRepo<'a> {
     pub key: &'a RepoKey,
 }
 
-impl<'a> Call<Book> for ShowRepo<'a> {
+impl<'a> Call<BoxedBook> for ShowRepo<'a> {
     type Answer = Result<(u64, Arc<Graph>), Memory>;
 
     ghost needs = { λ c by h n. Unit {0} };
 
     ghost does = { λ c by s a t. ShowsRepo (λ g. arc_value g) c.key.now s a t × IsStep s t };
 
-    fn act(self, by: u64, state: &mut Book) -> Result<(u64, Arc<Graph>), Memory> {
+    fn act(self, by: u64, state: &mut BoxedBook) -> Result<(u64, Arc<Graph>), Memory> {
         let _by = by;
-        let _found = state.point();
-        state.repo(self.key)
+        let _found = state.book.point();
+        state.book.repo(self.key)
     }
 
     ghost lasts = { λ c by xs ys n m h p le. tt };
@@ -114,17 +115,17 @@ pub struct Grow {
     pub graph: Arc<Graph>,
 }
 
-impl Call<Book> for Grow {
+impl Call<BoxedBook> for Grow {
     type Answer = Result<u64, GrowFault>;
 
     ghost needs = { λ c by h n. MayGrow c.key c.version (arc_value c.graph) by h n };
 
     ghost does = { λ c by s a t. Grows by c.key c.version (arc_value c.graph) s a t × IsStep s t };
 
-    fn act(self, by: u64, state: &mut Book) -> Result<u64, GrowFault> {
-        let _found = state.point();
-        let answer = state.grow(by, self.key, self.version, self.graph);
-        let _left = state.point();
+    fn act(self, by: u64, state: &mut BoxedBook) -> Result<u64, GrowFault> {
+        let _found = state.book.point();
+        let answer = state.book.grow(by, self.key, self.version, self.graph);
+        let _left = state.book.point();
         answer
     }
 
@@ -139,18 +140,18 @@ pub struct Look<'a> {
     pub found: Vec<Kept>,
 }
 
-impl<'a> Call<Book> for Look<'a> {
+impl<'a> Call<BoxedBook> for Look<'a> {
     type Answer = (Result<Newest, Memory>, Vec<Kept>);
 
     ghost needs = { λ c by h n. (vec_len c.found ≡ 0) × (length c.numbers.now ≤ vec_capacity c.found) };
 
     ghost does = { λ c by s a t. Looks (λ x p. StandsFor (arc_value x) p) c.numbers.now s a.0 a.1.items t × IsStep s t };
 
-    fn act(self, by: u64, state: &mut Book) -> (Result<Newest, Memory>, Vec<Kept>) {
+    fn act(self, by: u64, state: &mut BoxedBook) -> (Result<Newest, Memory>, Vec<Kept>) {
         let _by = by;
-        let _found = state.point();
+        let _found = state.book.point();
         let Look { numbers, mut found } = self;
-        let newest = state.look(numbers, &mut found);
+        let newest = state.book.look(numbers, &mut found);
         (newest, found)
     }
 
@@ -163,17 +164,17 @@ pub struct Pull {
     pub goal: u64,
 }
 
-impl Call<Book> for Pull {
+impl Call<BoxedBook> for Pull {
     type Answer = Result<Pulled, Memory>;
 
     ghost needs = { λ c by h n. MayPull c.goal by h n };
 
     ghost does = { λ c by s a t. Pulls name IsJob by c.goal s a t × IsStep s t };
 
-    fn act(self, by: u64, state: &mut Book) -> Result<Pulled, Memory> {
-        let _found = state.point();
-        let answer = state.pull(by, self.goal);
-        let _left = state.point();
+    fn act(self, by: u64, state: &mut BoxedBook) -> Result<Pulled, Memory> {
+        let _found = state.book.point();
+        let answer = state.book.pull(by, self.goal);
+        let _left = state.book.point();
         answer
     }
 
@@ -184,17 +185,17 @@ impl Call<Book> for Pull {
 #[derive(Drop)]
 pub struct Take;
 
-impl Call<Book> for Take {
+impl Call<BoxedBook> for Take {
     type Answer = Result<Taken, Memory>;
 
     ghost needs = { λ c by h n. MayCall by h n };
 
     ghost does = { λ c by s a t. Takes name IsJob by s a t × IsStep s t };
 
-    fn act(self, by: u64, state: &mut Book) -> Result<Taken, Memory> {
-        let _found = state.point();
-        let answer = state.take(by);
-        let _left = state.point();
+    fn act(self, by: u64, state: &mut BoxedBook) -> Result<Taken, Memory> {
+        let _found = state.book.point();
+        let answer = state.book.take(by);
+        let _left = state.book.point();
         answer
     }
 
@@ -207,17 +208,17 @@ pub struct Finish {
     pub finished: Finished,
 }
 
-impl Call<Book> for Finish {
+impl Call<BoxedBook> for Finish {
     type Answer = (Result<Progress, Strange>, Gone);
 
     ghost needs = { λ c by h n. MayFinish outcome IsDone c.finished by h n };
 
     ghost does = { λ c by s a t. Finishes by (outcome c.finished) s a.0 t × IsStep s t };
 
-    fn act(self, by: u64, state: &mut Book) -> (Result<Progress, Strange>, Gone) {
-        let _found = state.point();
-        let answer = state.finish(by, self.finished);
-        let _left = state.point();
+    fn act(self, by: u64, state: &mut BoxedBook) -> (Result<Progress, Strange>, Gone) {
+        let _found = state.book.point();
+        let answer = state.book.finish(by, self.finished);
+        let _left = state.book.point();
         answer
     }
 
@@ -230,17 +231,17 @@ pub struct GiveBack {
     pub job: Job,
 }
 
-impl Call<Book> for GiveBack {
+impl Call<BoxedBook> for GiveBack {
     type Answer = Result<(), Strange>;
 
     ghost needs = { λ c by h n. MayGiveBack name IsJob c.job by h n };
 
     ghost does = { λ c by s a t. GivesBack by (name c.job) s a t × IsStep s t };
 
-    fn act(self, by: u64, state: &mut Book) -> Result<(), Strange> {
-        let _found = state.point();
-        let answer = state.give_back(by, self.job);
-        let _left = state.point();
+    fn act(self, by: u64, state: &mut BoxedBook) -> Result<(), Strange> {
+        let _found = state.book.point();
+        let answer = state.book.give_back(by, self.job);
+        let _left = state.book.point();
         answer
     }
 

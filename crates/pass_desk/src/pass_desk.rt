@@ -4,10 +4,11 @@ ghost use Rattle.book_model.specs.Desk.{IsEvent};
 ghost use Rattle.pass_desk.specs.Turns.{IsStep};
 ghost use Rattle.pass_desk.specs.Passes.{HasEntered, IsRefused, HasLeft};
 
+use crate::boxed_book::{BookLock, BookPass, BoxedBook};
 use crate::calls::{
     CountImports, Enrol, Finish, GiveBack, Grow, Import, Look, Pull, ShowRepo, Take,
 };
-use book::{Book, Gone};
+use book::Gone;
 use book_desk::{
     CallersSpent, Desk, GrowFault, ImportFault, Kept, Newest, Progress, Pulled, Strange, Taken,
 };
@@ -18,17 +19,14 @@ use snapshot::{Finished, Job};
 use std::marker::Model;
 use std::mem;
 use std::sync::{Arc, Wait};
-use turn_lock::{Call, Pass, TurnLock};
-
-/// A pass of a book's lock.
-pub type BookPass = Pass<Book>;
+use turn_lock::Call;
 
 /// The desk of a caller that shares a book. Each of its calls waits for a turn of the lock, and others'
 /// turns come between.
 #[derive(Drop)]
 pub struct PassDesk<'a, R: Wait> {
     rt: &'a R,
-    lock: &'a TurnLock<Book>,
+    lock: &'a BookLock,
     pass: BookPass,
     me: u64,
     busy: u64,
@@ -52,7 +50,7 @@ impl<'a, R: Wait> PassDesk<'a, R> {
     /// A desk under a caller number of its own. Where none is left, the pass comes back, having turned.
     pub fn enter(
         rt: &'a R,
-        lock: &'a TurnLock<Book>,
+        lock: &'a BookLock,
         pass: BookPass,
     ) -> Result<PassDesk<'a, R>, (BookPass, CallersSpent)>
         requires { pass.lock ≡ lock.now }
@@ -82,7 +80,7 @@ impl<'a, R: Wait> PassDesk<'a, R> {
     }
 
     // Makes one call in one turn.
-    fn act<C: Call<Book>>(&mut self, call: C) -> C::Answer
+    fn act<C: Call<BoxedBook>>(&mut self, call: C) -> C::Answer
         requires needs { C.needs call self.old.me self.old.front (self.old.me + 1) }
         requires step { (s t : State) (a : C.Answer) → C.does call self.old.me s a t → IsStep s t }
         ensures acts { IsEvent (λ s t. C.does call self.old.me s result t) self.old self.new }

@@ -8,14 +8,13 @@ use book::Book;
 use gate::Gate;
 use listeners::Listener;
 use osv_prim::Memory;
-use pass_desk::BookPass;
+use pass_desk::{BookPass, share};
 use settings::Settings;
 use std::alloc::Global;
 use std::sync::Wait;
 use std::sync::atomic::{AtomicBool, AtomicU64, Ordering};
 use std::thread;
 use std::thread::{Scope, Threads};
-use turn_lock::TurnLock;
 
 /// How many threads serve connections, and how many do the jobs of publications beside them.
 #[derive(Clone, Copy, Debug, PartialEq, Eq)]
@@ -44,7 +43,7 @@ pub fn serve<L: Listener, G: Gate, R: Threads + Wait + Sync>(
     let Ok(book) = Book::new(alloc, *settings) else {
         return Err(Memory);
     };
-    let Ok((lock, pass)) = TurnLock::start(alloc, book) else {
+    let Ok((lock, pass)) = share(alloc, book) else {
         return Err(Memory);
     };
     let (stop, running) = (AtomicBool::new(false), AtomicU64::new(1));

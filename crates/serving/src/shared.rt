@@ -4,18 +4,16 @@ ghost use Rattle.serving.specs.Serving.{HasEnded};
 ghost use Rattle.serving.specs.Sharing.{Suits};
 
 use crate::lane::{serve_all, turn_away};
-use book::Book;
 use gate::Gate;
 use impact_worker::help;
 use listeners::Listener;
 use osv_prim::{Ledger, Steps, Unkept};
-use pass_desk::{BookPass, PassDesk};
+use pass_desk::{BookLock, BookPass, PassDesk};
 use settings::Settings;
 use std::alloc::Global;
 use std::sync::Wait;
 use std::sync::atomic::{AtomicBool, AtomicU64, Ordering};
 use std::sync::ledger::Blank;
-use turn_lock::TurnLock;
 
 /// What all of them share. `stop` is set once no lane is left, which `running` counts.
 #[derive(Drop)]
@@ -23,7 +21,7 @@ pub(crate) struct Shared<'a, R, G> {
     pub(crate) rt: &'a R,
     pub(crate) host: &'a HostRuntime,
     pub(crate) alloc: Global,
-    pub(crate) lock: &'a TurnLock<Book>,
+    pub(crate) lock: &'a BookLock,
     pub(crate) settings: &'a Settings,
     pub(crate) gate: &'a G,
     // How many helpers there are to be.

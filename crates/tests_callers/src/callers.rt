@@ -7,14 +7,13 @@ use crate::replay::replayed;
 use book::Book;
 use book_desk::Desk;
 use osv_prim::{Ledger, Memory, Steps, Unkept};
-use pass_desk::{BookPass, PassDesk};
+use pass_desk::{BookLock, BookPass, PassDesk, share};
 use settings::Settings;
 use std::alloc::Global;
 use std::sync::Wait;
 use std::sync::ledger::Blank;
 use std::thread;
 use std::thread::Threads;
-use turn_lock::TurnLock;
 
 /// How many callers there are, how many steps each of them takes, and from which seed.
 #[derive(Clone, Copy, Debug)]
@@ -53,7 +52,7 @@ fn run<R: Wait>(host: &HostRuntime, desk: PassDesk<'_, R>, plan: Plan) -> Result
 fn enter_all<'a, R: Wait>(
     rt: &'a R,
     alloc: Global,
-    lock: &'a TurnLock<Book>,
+    lock: &'a BookLock,
     pass: BookPass,
     count: u64,
 ) -> Option<(BookPass, Vec<PassDesk<'a, R>>)>
@@ -119,7 +118,7 @@ pub fn compare<R: Threads + Wait + Sync, L: Ledger>(
 ) -> Option<&'static str> {
     let alloc = host.alloc();
     let book = Book::new(alloc, Settings::default()).ok()?;
-    let (lock, pass) = TurnLock::start(alloc, book).ok()?;
+    let (lock, pass) = share(alloc, book).ok()?;
     let (mut pass, callers) = enter_all(rt, alloc, &lock, pass, plan.callers)?;
     let logs = thread::map_vec(
         rt,

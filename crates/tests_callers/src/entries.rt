@@ -2,9 +2,10 @@
 ghost use Rattle.std.specs.Prelude.{◌≡◌};
 ghost use Rattle.book_model.specs.State.{State};
 
-use book::{Book, Entry};
+use book::Entry;
 use osv_prim::Memory;
 use osv_record::Record;
+use pass_desk::BoxedBook;
 use std::alloc::Global;
 use std::sync::Arc;
 use turn_lock::Call;
@@ -47,16 +48,16 @@ fn copied(alloc: Global, entries: &[Entry]) -> Result<Vec<Seen>, Memory> {
     Ok(all)
 }
 
-impl Call<Book> for Read {
+impl Call<BoxedBook> for Read {
     type Answer = Result<Vec<Seen>, Memory>;
 
     ghost needs = { λ c by h n. Unit {0} };
 
     ghost does = { λ c by s a t. t ≡ s };
 
-    fn act(self, by: u64, state: &mut Book) -> Result<Vec<Seen>, Memory> {
+    fn act(self, by: u64, state: &mut BoxedBook) -> Result<Vec<Seen>, Memory> {
         let _by = by;
-        copied(self.alloc, state.entries())
+        copied(self.alloc, state.book().entries())
     }
 
     ghost lasts = { λ c by xs ys n m h p le. tt };

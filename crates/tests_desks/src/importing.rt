@@ -4,15 +4,15 @@ ghost use Rattle.book_model.specs.State.{State};
 
 use crate::opening::opened;
 use crate::requests::advisory;
-use book::{Book, Entry};
+use book::Entry;
 use book_desk::Desk;
 use edge_io::{Sink, write_whole};
 use osv_prim::Memory;
-use pass_desk::{BookPass, PassDesk};
+use pass_desk::{BookLock, BookPass, BoxedBook, PassDesk};
 use std::alloc::Global;
 use std::sync::{Arc, Wait};
 use std::thread::{Threads, join};
-use turn_lock::{Call, TurnLock};
+use turn_lock::Call;
 
 // How many imports are by a caller.
 #[derive(Drop)]
@@ -20,17 +20,17 @@ struct CountImports {
     caller: u64,
 }
 
-impl Call<Book> for CountImports {
+impl Call<BoxedBook> for CountImports {
     type Answer = u64;
 
     ghost needs = { λ c by h n. Unit {0} };
 
     ghost does = { λ c by s a t. t ≡ s };
 
-    fn act(self, by: u64, state: &mut Book) -> u64 {
+    fn act(self, by: u64, state: &mut BoxedBook) -> u64 {
         let _by = by;
         let mut count: u64 = 0;
-        for entry in state.entries() {
+        for entry in state.book().entries() {
             if let Entry::Import { by, .. } = entry {
                 if *by == self.caller {
                     count = count.saturating_add(1);
@@ -47,7 +47,7 @@ impl Call<Book> for CountImports {
 fn importer<R: Wait>(
     rt: &R,
     alloc: Global,
-    lock: &TurnLock<Book>,
+    lock: &BookLock,
     pass: BookPass,
     count: u64,
 ) -> Option<BookPass>
@@ -67,7 +67,7 @@ fn importer<R: Wait>(
 fn two<R: Threads + Wait + Sync>(
     rt: &R,
     alloc: Global,
-    lock: &TurnLock<Book>,
+    lock: &BookLock,
     pass: BookPass,
     count: u64,
 ) -> Option<BookPass>
@@ -93,7 +93,7 @@ fn two<R: Threads + Wait + Sync>(
 fn three<R: Threads + Wait + Sync>(
     rt: &R,
     alloc: Global,
-    lock: &TurnLock<Book>,
+    lock: &BookLock,
     pass: BookPass,
     count: u64,
 ) -> Option<BookPass>

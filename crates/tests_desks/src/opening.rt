@@ -4,25 +4,23 @@ ghost use Rattle.settings.specs.Ranges.{default_settings};
 
 use book::Book;
 use osv_prim::Memory;
-use pass_desk::{BookPass, PassDesk};
+use pass_desk::{BookLock, BookPass, PassDesk, share};
 use settings::Settings;
 use std::alloc::Global;
 use std::sync::Wait;
-use turn_lock::TurnLock;
 
 /// A lock over a book with no entry, and a pass.
-pub fn opened(alloc: Global) -> Result<(TurnLock<Book>, BookPass), Memory>
+pub fn opened(alloc: Global) -> Result<(BookLock, BookPass), Memory>
     ensures lock { IfOk result (λ r. r.1.lock ≡ r.0) }
     ensures settings { IfOk result (λ r. r.0.fixed ≡ Some default_settings) }
 {
-    let book = Book::new(alloc, Settings::default())?;
-    Ok(TurnLock::start(alloc, book)?)
+    share(alloc, Book::new(alloc, Settings::default())?)
 }
 
 /// A caller that enters by a pass.
 pub fn entered<'a, R: Wait>(
     rt: &'a R,
-    lock: &'a TurnLock<Book>,
+    lock: &'a BookLock,
     pass: BookPass,
 ) -> Result<PassDesk<'a, R>, Memory>
     requires lock { pass.lock ≡ lock.now }

@@ -7,30 +7,28 @@ use book_desk::Desk;
 use gate::OpenGate;
 use impact_worker::help;
 use osv_prim::{Ledger, Memory, Steps};
-use pass_desk::{BookPass, PassDesk};
+use pass_desk::{BookLock, BookPass, PassDesk, share};
 use settings::Settings;
 use std::alloc::Global;
 use std::sync::Wait;
 use std::sync::atomic::{AtomicBool, Ordering};
 use std::thread::{Threads, join, yield_now};
-use turn_lock::TurnLock;
 
 /// The most looks at which the newest snapshot may be another than the one that is waited for.
 const MOST_LOOKS: u64 = 10_000_000;
 
 /// A lock over a book with no entry, and a pass.
-pub fn opened(alloc: Global) -> Result<(TurnLock<Book>, BookPass), Memory>
+pub fn opened(alloc: Global) -> Result<(BookLock, BookPass), Memory>
     ensures { IfOk result (λ r. r.1.lock ≡ r.0) }
 {
-    let book = Book::new(alloc, Settings::default())?;
-    Ok(TurnLock::start(alloc, book)?)
+    share(alloc, Book::new(alloc, Settings::default())?)
 }
 
 // How many jobs a helper does until it is stopped. None where no caller number is left.
 fn helper<R: Wait, L: Ledger>(
     rt: &R,
     alloc: Global,
-    lock: &TurnLock<Book>,
+    lock: &BookLock,
     pass: BookPass,
     stop: &AtomicBool,
     steps: &mut Steps<L>,
@@ -68,7 +66,7 @@ fn open_all<D: Desk>(alloc: Global, desk: &mut D, times: u64) -> Result<u64, Mem
 fn publisher<R: Wait>(
     rt: &R,
     alloc: Global,
-    lock: &TurnLock<Book>,
+    lock: &BookLock,
     pass: BookPass,
     times: u64,
     stop: &AtomicBool,
@@ -88,7 +86,7 @@ fn publisher<R: Wait>(
 fn beside<R: Threads + Wait + Sync, L: Ledger + Send>(
     rt: &R,
     alloc: Global,
-    lock: &TurnLock<Book>,
+    lock: &BookLock,
     pass: BookPass,
     theirs: BookPass,
     times: u64,

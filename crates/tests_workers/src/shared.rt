@@ -3,15 +3,13 @@ ghost use Rattle.std.specs.Prelude.{◌≡◌, ◌≤◌};
 
 use crate::build::{import_ranges, newest, open};
 use crate::helped::opened;
-use book::Book;
 use gate::{HoldGate, OpenGate};
 use impact_worker::drain;
 use osv_prim::{Ledger, Memory, Steps, Unkept};
-use pass_desk::{BookPass, PassDesk};
+use pass_desk::{BookLock, BookPass, PassDesk};
 use std::sync::Wait;
 use std::sync::ledger::Blank;
 use std::thread::{Threads, join};
-use turn_lock::TurnLock;
 
 /// For how many turns the first piece is held where nobody does the second one.
 const MOST_TURNS: u64 = 10_000_000;
@@ -23,7 +21,7 @@ fn drained_in<L: Ledger, R: Wait>(
     host: &HostRuntime,
     rt: &R,
     blank: Blank,
-    lock: &TurnLock<Book>,
+    lock: &BookLock,
     pass: BookPass,
     gate: &HoldGate,
 ) -> Option<u64>
@@ -41,7 +39,7 @@ fn drained_in<L: Ledger, R: Wait>(
 fn drained<R: Wait>(
     host: &HostRuntime,
     rt: &R,
-    lock: &TurnLock<Book>,
+    lock: &BookLock,
     pass: BookPass,
     gate: &HoldGate,
 ) -> Option<u64>
@@ -54,7 +52,7 @@ fn drained<R: Wait>(
 fn both<R: Threads + Wait + Sync>(
     host: &HostRuntime,
     rt: &R,
-    lock: &TurnLock<Book>,
+    lock: &BookLock,
     pass: BookPass,
     theirs: BookPass,
     gate: &HoldGate,
