@@ -56,13 +56,17 @@ def built_test(name):
 
 
 def free_port():
-    """A loopback port below those that the system gives to clients, which come and go while a program starts."""
+    """A loopback port below those that the system gives to clients, which come and go while a program starts. It is bound
+    and not listened on: a process that another thread starts just then holds it for a moment more, and could not be told
+    from a server."""
     while True:
-        try:
-            with socket.create_server(("127.0.0.1", next(PORTS))) as one:
+        with socket.socket() as one:
+            one.setsockopt(socket.SOL_SOCKET, socket.SO_REUSEADDR, 1)
+            try:
+                one.bind(("127.0.0.1", next(PORTS)))
                 return one.getsockname()[1]
-        except OSError:
-            pass
+            except OSError:
+                pass
 
 
 @contextlib.contextmanager
